@@ -1,6 +1,6 @@
 -- Runs that stand alike have the same outcomes, end alike, and are searched alike: so a search may leave a run out where one was searched that
 -- it stands alike with.
-use Rattle.std.proofs.Common.{ℕ, ◌<◌, List, sym, ap, subst, ◌∙◌}
+use Rattle.std.proofs.Common.{◌≡◌, ℕ, ◌+◌, ◌<◌, List, length, sym, ap, subst, ◌∙◌, arith}
 use Rattle.std.proofs.lemmas.Option.{slice_get_within}
 use Rattle.rank_machine.specs.States.{State}
 use Rattle.crash_free.proofs.LiveVariablesLaws.Wanting.{wants_same}
@@ -10,7 +10,7 @@ use Rattle.crash_free.proofs.Alike.{comes_too, alike_back, each_follows_too}
 use Rattle.crash_free.proofs.Unreceived.{left_same}
 use Rattle.audit.specs.FinalRuns.Maximal.{IsMaximal, RankOutcome, end_of, IsRankOutcome, IsOutcomeOf}
 use Rattle.explore.specs.Endings.{Ending, IsEndingOf}
-use Rattle.explore.specs.Exploring.{and_then, HasOneAnswer, IsExplored, ends, fixed, alone, branch}
+use Rattle.explore.specs.Exploring.{and_then, HasOneAnswer, EndsFound, IsExplored, IsSearchedUpTo, up_to, fixed, alone, branch}
 use Rattle.explore.specs.Exploring.{AlwaysEndsIn, at_end, goes_on}
 use Rattle.explore.specs.Onward.{GoesOnTo, there, further, MayEndSo}
 use Rattle.audit.proofs.FinalRunsLaws.Simulating.{no_step}
@@ -97,26 +97,42 @@ always_ends_too start n found P Q run run' alike (goes_on r act may ending) =
     always_ends_too start n found (and_then P q g.other) (and_then Q q a) (run, may'.0, g.may) (run', may'.0, may'.1)
     (alike_back start n (and_then Q q a) (and_then P q g.other) g.alike) (ending q g.other (may'.0, g.may))))
 
--- and where all was searched that may follow the one, all was that may follow the other
-pub explored_too : (start : ℕ → State) (n : ℕ) (found : Ending → Type 0) (P Q : List Passed) → IsRun start n P → IsRun start n Q
-    → StandAlike start n P Q → IsExplored start n found P → IsExplored start n found Q
-explored_too start n found P Q run run' alike (ends e is_its is_found) = ends e (ending_too start n P Q e run' alike is_its) is_found
-explored_too start n found P Q run run' alike (fixed r act fix explored) =
+-- Where all was searched that may follow the one, up to runs of one kind, all was that may follow the other, up to runs that stand alike with
+-- these and have as many acts more or less as it has.
+pub searched_too : (start : ℕ → State) (n : ℕ) (a b : ℕ) (last last' : List Passed → Type 0)
+    → ((C D : List Passed) → IsRun start n D → StandAlike start n C D → length D + a ≡ length C + b → last C → last' D)
+    → (P Q : List Passed) → IsRun start n P → IsRun start n Q → StandAlike start n P Q → length Q + a ≡ length P + b
+    → IsSearchedUpTo start n last P → IsSearchedUpTo start n last' Q
+searched_too start n a b last last' ends P Q run run' alike long (up_to it) = up_to (ends P Q run' alike long it)
+searched_too start n a b last last' ends P Q run run' alike long (fixed r act fix searched) =
     let f = each_follows_too start n P Q run run' alike r act fix.low fix.may in
     fixed r f.other
     (record { low = fix.low; may = f.may; one = subst HasOneAnswer (sym f.wants_same) fix.one })
-    (explored_too start n found (and_then P r act) (and_then Q r f.other) (run, fix.low, fix.may) (run', fix.low, f.may) f.alike explored)
-explored_too start n found P Q run run' alike (alone r act may persistent explored) =
+    (searched_too start n a b last last' ends (and_then P r act) (and_then Q r f.other) (run, fix.low, fix.may) (run', fix.low, f.may) f.alike
+    (omega (arith, long)) searched)
+searched_too start n a b last last' ends P Q run run' alike long (alone r act may persistent searched) =
     let f = each_follows_too start n P Q run run' alike r act may.0 may.1 in
     alone r f.other (may.0, f.may) (persistent_too start n P Q r run run' alike persistent)
-    (λ a may'.
-    (let g = each_follows_too start n Q P run' run (alike_back start n P Q alike) r a may'.0 may'.1 in
-    explored_too start n found (and_then P r g.other) (and_then Q r a) (run, may'.0, g.may) (run', may'.0, may'.1)
-    (alike_back start n (and_then Q r a) (and_then P r g.other) g.alike) (explored g.other (may'.0, g.may))))
-explored_too start n found P Q run run' alike (branch r act may explored) =
+    (λ c may'.
+    (let g = each_follows_too start n Q P run' run (alike_back start n P Q alike) r c may'.0 may'.1 in
+    searched_too start n a b last last' ends (and_then P r g.other) (and_then Q r c) (run, may'.0, g.may) (run', may'.0, may'.1)
+    (alike_back start n (and_then Q r c) (and_then P r g.other) g.alike) (omega (arith, long)) (searched g.other (may'.0, g.may))))
+searched_too start n a b last last' ends P Q run run' alike long (branch r act may searched) =
     let f = each_follows_too start n P Q run run' alike r act may.0 may.1 in
     branch r f.other (may.0, f.may)
-    (λ q a may'.
-    (let g = each_follows_too start n Q P run' run (alike_back start n P Q alike) q a may'.0 may'.1 in
-    explored_too start n found (and_then P q g.other) (and_then Q q a) (run, may'.0, g.may) (run', may'.0, may'.1)
-    (alike_back start n (and_then Q q a) (and_then P q g.other) g.alike) (explored q g.other (may'.0, g.may))))
+    (λ q c may'.
+    (let g = each_follows_too start n Q P run' run (alike_back start n P Q alike) q c may'.0 may'.1 in
+    searched_too start n a b last last' ends (and_then P q g.other) (and_then Q q c) (run, may'.0, g.may) (run', may'.0, may'.1)
+    (alike_back start n (and_then Q q c) (and_then P q g.other) g.alike) (omega (arith, long)) (searched q g.other (may'.0, g.may))))
+
+-- what ends as was found does so where it stands alike
+pub ends_found_too : (start : ℕ → State) (n : ℕ) (found : Ending → Type 0) (C D : List Passed) → IsRun start n D → StandAlike start n C D
+    → EndsFound start n found C → EndsFound start n found D
+ends_found_too start n found C D run alike ended = (ended.0, ending_too start n C D ended.0 run alike ended.1, ended.2)
+
+-- so where all was searched that may follow the one, all was that may follow the other
+pub explored_too : (start : ℕ → State) (n : ℕ) (found : Ending → Type 0) (P Q : List Passed) → IsRun start n P → IsRun start n Q
+    → StandAlike start n P Q → IsExplored start n found P → IsExplored start n found Q
+explored_too start n found P Q run run' alike explored =
+    searched_too start n (length P) (length Q) (EndsFound start n found) (EndsFound start n found)
+    (λ C D here alike' long ended. ends_found_too start n found C D here alike' ended) P Q run run' alike (omega arith) explored

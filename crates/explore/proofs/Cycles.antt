@@ -1,7 +1,6 @@
 -- A run that stands where one of its beginnings stood may go on as it did from there, again and again: what follows the one has partners
 -- that follow the other, and with these they stand alike again.
 use Rattle.std.proofs.Common.{◌≡◌, ℕ, zero, suc, ◌+◌, ◌<◌, ◌≤◌, List, [], ◌∷◌, ◌++◌, length, ◌⊎◌, inl, inr, refl, sym, subst, ◌∙◌, arith}
-use Rattle.rank_language.specs.Program.{ProgramValue}
 use Rattle.rank_machine.specs.States.{State}
 use Rattle.rank_machine.specs.Acts.{Act}
 use Rattle.crash_free.specs.Runs.{Passed, IsRun}
@@ -9,7 +8,7 @@ use Rattle.crash_free.specs.declared.choice.Choice.{Choice}
 use Rattle.crash_free.specs.Sim.{SimValue, Simulates, Allows, start_of}
 use Rattle.crash_free.specs.Wanted.{StandsAtAct}
 use Rattle.crash_free.specs.Alike.{StandAlike}
-use Rattle.crash_free.specs.Standing.{Rows, StandsAt}
+use Rattle.crash_free.specs.Standing.{Rows}
 use Rattle.crash_free.proofs.Alike.{alike_back, alike_further, each_follows_too}
 use Rattle.crash_free.proofs.SameRows.{same_but_length}
 use Rattle.audit.specs.FinalRuns.Maximal.{MayFollow}

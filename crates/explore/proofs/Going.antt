@@ -2,12 +2,12 @@
 use Rattle.std.proofs.Common.{◌≡◌, ℕ, ◌≤◌, Bool, true, false, List, [], ◌∷◌, ◌++◌, Option, None, length, refl, sym, ap, subst, ◌∙◌}
 use Rattle.rank_language.specs.Program.{ProgramValue}
 use Rattle.crash_free.specs.Runs.{Passed}
-use Rattle.crash_free.specs.Standing.{Rows}
 use Rattle.crash_free.specs.Sim.{SimValue}
 use Rattle.explore.specs.declared.branch.Branch.{Branch}
 use Rattle.explore.specs.declared.moves.Move.{Move}
 use Rattle.explore.specs.Endings.{Ending}
 use Rattle.explore.specs.Counting.{GoesBeyond}
+use Rattle.explore.specs.Met.{Kept}
 use Rattle.explore.specs.Searching.{IsAlike, IsOn, Looks, NeedsFewer, Searches}
 use Rattle.explore.specs.Small.{EnoughForAll, Spares}
 use Rattle.explore.specs.Stems.{first_acts, GoOff, IsAfter, IsRunOf, Stem, stem_of, stems_of, whole}
@@ -29,28 +29,30 @@ whole_only s b none shared chosen =
 
 -- so nothing is found yet, and all is to be searched
 pub on_begins : (program : ProgramValue) (n : ℕ) (s : SimValue) (b : Branch) → s.program ≡ program → length s.machines ≡ n → s.run ≡ [] → b.shared ≡ 0
-    → b.chosen ≡ None → IsOn program n s (b ∷ []) [] [] false
-on_begins program n s b same ranks none shared chosen =
+    → b.chosen ≡ None → (closes : Bool) → IsOn program n s (b ∷ []) [] (record { closes = closes; states = [] }) false
+on_begins program n s b same ranks none shared chosen closes =
     record {
       program_same = same;
       ranks = ranks;
       off =
           off_push program n s.run [] b (shared ∙ sym (ap length none))
           (s.run, subst (λ o. IsAfter program n s.run o s.run) (sym chosen) refl) (off_none program n s.run);
-      search = subst (λ (z : List Stem). Searches program n [] z [] false) (sym (whole_only s b none shared chosen)) (searches_all program n);
+      search =
+          subst (λ (z : List Stem). Searches program n [] z (record { closes = closes; states = [] }) false) (sym (whole_only s b none shared chosen))
+          (searches_all program n closes);
     }
 
 -- The same program and number of ranks
 
 -- how far a search has come, by the program and the number of ranks of a simulation
-pub on_own : (program : ProgramValue) (n : ℕ) (s : SimValue) (pending : List Branch) (outcomes : List Ending) (met : List Rows) (cut : Bool)
+pub on_own : (program : ProgramValue) (n : ℕ) (s : SimValue) (pending : List Branch) (outcomes : List Ending) (met : Kept) (cut : Bool)
     → IsOn program n s pending outcomes met cut → IsOn s.program (length s.machines) s pending outcomes met cut
 on_own program n s pending outcomes met cut on =
     subst (λ k. IsOn s.program k s pending outcomes met cut) (sym on.ranks)
     (subst (λ p. IsOn p n s pending outcomes met cut) (sym on.program_same) on)
 
 -- and back
-pub on_back : (program : ProgramValue) (n : ℕ) (s s' : SimValue) (pending : List Branch) (outcomes : List Ending) (met : List Rows)
+pub on_back : (program : ProgramValue) (n : ℕ) (s s' : SimValue) (pending : List Branch) (outcomes : List Ending) (met : Kept)
     (cut : Bool) → s.program ≡ program → length s.machines ≡ n → IsOn s.program (length s.machines) s' pending outcomes met cut
     → IsOn program n s' pending outcomes met cut
 on_back program n s s' pending outcomes met cut same ranks on =
@@ -78,7 +80,7 @@ beyond_on program n s steps cut cut' same ranks before on e =
 
 -- One branch
 
-module _ (s t : SimValue) (pending : List Branch) (b : Branch) (outcomes : List Ending) (met : List Rows) (cut : Bool)
+module _ (s t : SimValue) (pending : List Branch) (b : Branch) (outcomes : List Ending) (met : Kept) (cut : Bool)
     (on : IsOn s.program (length s.machines) s (pending ++ b ∷ []) outcomes met cut) (alike : IsAlike s t)
     (shares : (k : ℕ) → k ≤ b.shared → first_acts k t.run ≡ first_acts k s.run) (long : b.shared ≤ length t.run) where
   -- the branches before the last one go off its run, once that is made
@@ -119,7 +121,7 @@ module _ (s t : SimValue) (pending : List Branch) (b : Branch) (outcomes : List 
   -- where it was looked at
   module _ (only : (P : List Passed) → IsRunOf s.program (length s.machines) (stem_of s.run b) P → P ≡ t.run) (t' : SimValue) (new : List Branch)
       (alike' : IsAlike t t') (off : GoOff t.program (length t.machines) t'.run new) where
-    pub on_looked : (outcomes' : List Ending) (met' : List Rows) (cut' ended : Bool)
+    pub on_looked : (outcomes' : List Ending) (met' : Kept) (cut' ended : Bool)
         → Looks t ended (stems_of t.run pending) (stems_of t'.run new) outcomes outcomes' met met' → (cut' ≡ false → (cut ≡ false) × (ended ≡ true))
         → IsOn s.program (length s.machines) t' new outcomes' met' cut'
     on_looked outcomes' met' cut' ended looks uncut =

@@ -4,19 +4,18 @@ use Rattle.rank_language.specs.Program.{ProgramValue}
 use Rattle.crash_free.specs.declared.leftover.Leftover.{Leftover}
 use Rattle.crash_free.specs.Leftovers.{left_in}
 use Rattle.crash_free.specs.Sim.{start_of}
-use Rattle.crash_free.specs.Standing.{Rows}
 use Rattle.audit.specs.FinalRuns.Maximal.{IsPossible, RankOutcome}
 use Rattle.explore.specs.Endings.{AreLeftovers, Ending, MayEndAs}
 use Rattle.explore.specs.Exploring.{AlwaysEndsIn}
 use Rattle.explore.specs.Found.{AreGrouped}
+use Rattle.explore.specs.Met.{Kept}
 use Rattle.explore.specs.Outcomes.{AreAll, IsAmong}
 use Rattle.explore.specs.Searching.{Searches}
 use Rattle.explore.proofs.Ending.{all_end}
-use Rattle.explore.proofs.Looking.{all_searched}
-use Rattle.explore.proofs.Outcomes.{all_found}
+use Rattle.explore.proofs.Looking.{all_searched, each_found}
 
 module _ (program : ProgramValue) (n : ℕ) (endings : List Ending) (outcomes : List (List RankOutcome)) (left : List (List (List Leftover)))
-    (met : List Rows) (grouped : AreGrouped endings outcomes left) where
+    (met : Kept) (grouped : AreGrouped endings outcomes left) where
   -- the program may have each outcome
   pub outcome_possible : ((e : Ending) → IsAmong endings e → MayEndAs program n e) → (o : List RankOutcome) → IsAmong outcomes o → IsPossible program n o
   outcome_possible possible o a =
@@ -26,7 +25,7 @@ module _ (program : ProgramValue) (n : ℕ) (endings : List Ending) (outcomes : 
 
   -- once nothing is left, each ending that the program may have was found
   none_missing : Searches program n endings [] met false → (e : Ending) → MayEndAs program n e → IsAmong endings e
-  none_missing search = all_found program n (IsAmong endings) (all_searched program n endings met search)
+  none_missing search = each_found program n endings met search
 
   -- so the outcomes found are all
   pub all_outcomes : Searches program n endings [] met false → AreAll program n outcomes
@@ -61,8 +60,9 @@ module _ (program : ProgramValue) (n : ℕ) (endings : List Ending) (outcomes : 
           let one : there.1 ≡ listed = cc in
           subst (λ z. IsAmong z l) one there.4
 
-  -- and however the ranks go on, they come to one of the outcomes
-  pub all_orders_end : Searches program n endings [] met false → AlwaysEndsIn (start_of program n) n (IsAmong outcomes) []
-  all_orders_end search =
+  -- and however the ranks go on, they come to one of the outcomes, if no state comes back
+  pub all_orders_end : Searches program n endings [] met false → met.closes ≡ false
+      → AlwaysEndsIn (start_of program n) n (IsAmong outcomes) []
+  all_orders_end search none =
       all_end program n (IsAmong endings) (IsAmong outcomes) (λ e a. (let there = grouped.each e a in (there.0, there.2)))
-      (all_searched program n endings met search)
+      (all_searched program n endings met search none)

@@ -1,5 +1,5 @@
 -- Outcomes that were found, with what was never received in runs that have them: their endings.
-use Rattle.std.proofs.Common.{◌≡◌, ◌≢◌, ℕ, zero, suc, ◌<◌, List, [], ◌∷◌, ◌++◌, Some, length, slice_get, ◌⊎◌, inl, inr, refl, sym, ap, subst, ◌∙◌}
+use Rattle.std.proofs.Common.{◌≡◌, ℕ, zero, suc, ◌<◌, List, [], ◌∷◌, ◌++◌, Some, length, slice_get, ◌⊎◌, inl, inr, refl, sym, ap, subst, ◌∙◌}
 use Rattle.std.proofs.Common.{Result, Ok, Err, get_or}
 use Rattle.std.specs.Prelude.{OnErr, OnOk, map, option_map, slice_set}
 use Rattle.std.specs.BTreeMap.{BTreeMap}

@@ -7,7 +7,7 @@ use Rattle.crash_free.specs.Parts.{IsPartOf}
 use Rattle.crash_free.proofs.Reorder.{IsBeginning-trans, history_grows}
 use Rattle.audit.specs.FinalRuns.Maximal.{MayFollow}
 use Rattle.explore.specs.Endings.{Ending, IsEndingOf}
-use Rattle.explore.specs.Exploring.{and_then, IsExplored, ends, fixed, alone, branch}
+use Rattle.explore.specs.Exploring.{and_then, IsExplored, up_to, fixed, alone, branch}
 use Rattle.explore.proofs.Alone.{persistent_act}
 use Rattle.explore.proofs.Exploring.{all_or_next, all_of_maximal, both_ways, follows_both}
 use Rattle.explore.proofs.Fixed.{fixed_act}
@@ -35,8 +35,8 @@ known_part has found C D part k =
 -- Where all was searched that may follow a run, each run that it is a part of is known.
 pub each_is_known : (start : ℕ → State) (n : ℕ) (found : Ending → Type 0) (P C : List Passed) → IsExplored start n found P → IsRun start n P
     → IsRun start n C → IsPartOf P C → IsKnown (IsEndingOf start n) found C
-each_is_known start n found P C (ends o is_its is_found) run whole part =
-    record { run = P; outcome = o; is_its = is_its; is_found = is_found; part = all_of_maximal start n P C run whole is_its.outcome.maximal part }
+each_is_known start n found P C (up_to end) run whole part =
+    record { run = P; outcome = end.0; is_its = end.1; is_found = end.2; part = all_of_maximal start n P C run whole end.1.outcome.maximal part }
 each_is_known start n found P C (fixed r act fix explored) run whole part =
     go (λ D whole' part'. each_is_known start n found (and_then P r act) D explored (run, fix.low, fix.may) whole' part')
     (fixed_act start n P C r act run whole part fix)

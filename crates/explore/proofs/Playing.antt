@@ -2,17 +2,17 @@
 use Rattle.std.proofs.Common.{◌≡◌, ℕ, List, [], ◌∷◌, length, inl, sym, subst}
 use Rattle.crash_free.specs.Runs.{Passed}
 use Rattle.crash_free.specs.Sim.{SimValue}
-use Rattle.crash_free.specs.Standing.{Rows}
 use Rattle.explore.specs.declared.branch.Branch.{Branch}
 use Rattle.explore.specs.declared.moves.Move.{Move}
 use Rattle.explore.specs.Counts.{NoneIsFixed}
 use Rattle.explore.specs.Making.{LeadsTo}
-use Rattle.explore.specs.Met.{AddsAtMost}
+use Rattle.explore.specs.Met.{Kept, AddsAtMost}
 use Rattle.explore.specs.Outcomes.{AreDistinct}
 use Rattle.explore.specs.Searching.{IsAlike, PlaysOn, Remembers}
 use Rattle.explore.specs.Small.{KeepsEnough}
 use Rattle.explore.specs.Stems.{GoesBehind, Stem, stems_of, GoOff}
 use Rattle.explore.proofs.Choosing.{IsStep, goes_by}
+use Rattle.explore.proofs.Meeting.{keeps_same}
 use Rattle.explore.proofs.Searching.{Moves, plays_along, plays_nothing, remembers_along, plays_moves, remembers_moves}
 use Rattle.explore.proofs.Small.{keeps_nothing}
 use Rattle.explore.proofs.Sparing.{along_enough, moves_enough}
@@ -31,25 +31,25 @@ off_of s s' C pending alike off =
     subst (λ n. GoOff s'.program n C pending) (sym alike.ranks) (subst (λ p. GoOff p (length s.machines) C pending) (sym alike.program) off)
 
 -- A run went on from the first simulation to the second, with what was left before it and now, and where runs stood before it and by now.
-pub record HasCome (s : SimValue) (old : List Stem) (s' : SimValue) (pending : List Branch) (before met : List Rows) : Type 0 where
+pub record HasCome (s : SimValue) (old : List Stem) (s' : SimValue) (pending : List Branch) (before met : Kept) : Type 0 where
   pub plays : PlaysOn s old s' (stems_of s'.run pending)
   pub off : GoOff s.program (length s.machines) s'.run pending
   pub remembers : Remembers s s' (stems_of s'.run pending) before met
   pub enough : KeepsEnough s old s' (stems_of s'.run pending)
 
 -- before the first step
-pub comes_nowhere : (s : SimValue) (pending : List Branch) (met : List Rows) → GoOff s.program (length s.machines) s.run pending
+pub comes_nowhere : (s : SimValue) (pending : List Branch) (met : Kept) → GoOff s.program (length s.machines) s.run pending
     → HasCome s (stems_of s.run pending) s pending met met
 comes_nowhere s pending met off =
     record {
       plays = plays_nothing s (stems_of s.run pending);
       off = off;
-      remembers = λ m a. inl a;
+      remembers = record { keeps = keeps_same met; each = λ m a. inl a };
       enough = keeps_nothing s (stems_of s.run pending);
     }
 
 -- by acts that are fixed
-pub comes_along : (s : SimValue) (old : List Stem) (mid s' : SimValue) (pending : List Branch) (before met : List Rows) → HasCome s old mid pending before met
+pub comes_along : (s : SimValue) (old : List Stem) (mid s' : SimValue) (pending : List Branch) (before met : Kept) → HasCome s old mid pending before met
     → LeadsTo mid s' → HasCome s old s' pending before met
 comes_along s old mid s' pending before met come leads =
     record {
@@ -68,7 +68,7 @@ comes_along s old mid s' pending before met come leads =
 
 -- by a move, with a branch left for each other
 pub comes_moved : (s : SimValue) (old : List Stem) (mid s' : SimValue) (pending new : List Branch) (moves : List Move) (first : Move)
-    (before met met' : List Rows) → HasCome s old mid pending before met
+    (before met met' : Kept) → HasCome s old mid pending before met
     → Moves s mid s' (stems_of mid.run pending) (stems_of mid.run new) moves first → GoOff mid.program (length mid.machines) mid.run new
     → AddsAtMost met mid met' → AreDistinct moves → ((r : ℕ) → NoneIsFixed mid r) → HasCome s old s' new before met'
 comes_moved s old mid s' pending new moves first before met met' come made off adds once none =

@@ -51,7 +51,7 @@ impl Found {
     }
 
     /// Notes an outcome with what was never received, and with the choices that
-    /// lead to it if it is new. An `Err` means out of memory.
+    /// lead to it if one of both is new. An `Err` means out of memory.
     pub fn note(
         &mut self,
         ranks: Vec<RankEnd, Heap>,
@@ -63,7 +63,7 @@ impl Found {
         let hash = hash_of(&ranks);
         let likely = self.by_hash.get(&hash).copied();
         match place_of(&self.outcomes, likely, &ranks) {
-            Some(place) => add_left(&mut self.outcomes, place, left),
+            Some(place) => add_left(&mut self.outcomes, place, left, choices),
             None => self.add(hash, ranks, left, choices),
         }
     }
@@ -104,6 +104,7 @@ fn add_left(
     outcomes: &mut Vec<FoundOutcome, Heap>,
     place: usize,
     left: Vec<Leftover, Heap>,
+    choices: &[Noted],
 ) -> Result<(), AllocError>
     requires { place < length outcomes.old.items }
     ensures ok { OnOk result (AddsLeft place left.items outcomes.old.items outcomes.new.items) }
@@ -114,7 +115,7 @@ fn add_left(
         return Ok(());
     }
     let outcome = &mut outcomes[place];
-    outcome.add_left(left)
+    outcome.add_left(left, choices)
 }
 
 // Where the outcome stands among these, if there is a likely place. Two may have one hash, so a no

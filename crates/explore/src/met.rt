@@ -1,8 +1,8 @@
 //! Where runs stood that a search met.
-ghost use Rattle.std.specs.Prelude.{◌≡◌, ◌<◌, true, [], IfOk, IfSome, Ok, length};
-ghost use Rattle.crash_free.specs.LiveVariables.Live.{IsTableOf};
+ghost use Rattle.std.specs.Prelude.{◌≡◌, ◌<◌, true, [], IfOk, IfSome, Ok, OnOk, length};
+ghost use Rattle.crash_free.specs.LiveVariables.Live.{IsTableOf, Table};
 ghost use Rattle.crash_free.specs.Standing.{Rows, behind, and_rank, rows_of, StandsAt};
-ghost use Rattle.explore.specs.Met.{AddsAtMost, WasMet};
+ghost use Rattle.explore.specs.Met.{AddsAtMost, StandsBy, WasMet, first_rows, state_rows};
 ghost use Rattle.explore.specs.Parts.{KeepsParts, AreParts};
 
 use crate::parts::Parts;
@@ -32,31 +32,42 @@ pub struct Met {
     states: States,
     // where each part is written, so that one that is kept takes no more memory
     part: Standing,
+    closes: bool,
 }
 
 impl Model for Met {
     ghost use Rattle.std.specs.Prelude.{List, length};
-    ghost use Rattle.crash_free.specs.Standing as standing;
+    ghost use Rattle.explore.specs.Met.{Kept};
     ghost use Rattle.explore.specs.Parts.{all_joined, AllAreBelow};
 
-    ghost Value = { List standing.Rows };
+    ghost Value = { Kept };
 
-    ghost view = { λ m. all_joined m.parts m.states };
+    ghost view = { λ m. record { closes = m.closes; states = all_joined m.parts m.states } };
 
     ghost invariant = { λ m. AllAreBelow (length m.parts) m.states };
 }
 
 impl Met {
-    /// None yet, and at most so many.
-    pub fn new(alloc: Heap, most_states: u32) -> Met
-        ensures { result ≡ [] }
+    /// None yet, and at most so many. If the search closes over them, a run
+    /// counts as met where one stood before, however long it is, so that a state
+    /// may come back in a run.
+    pub fn new(alloc: Heap, most_states: u32, closes: bool) -> Met
+        ensures { result ≡ record { closes = closes; states = [] } }
     {
         Met {
             alloc,
             parts: Parts::new(alloc, MOST_NUMBERS),
             states: States::new(alloc, most_states),
             part: Standing::new(alloc),
+            closes,
         }
+    }
+
+    /// Whether a state may come back in a run.
+    pub fn closes(&self) -> bool
+        ensures { result ≡ self.now.closes }
+    {
+        self.closes
     }
 
     /// Whether a run stood where this one does, by the program's table of what
@@ -68,7 +79,14 @@ impl Met {
         ensures same { result ≡ Ok true → self.new ≡ self.old }
         ensures adds { IfOk result (λ _. AddsAtMost self.old sim.now self.new) }
     {
-        let state = state_of(self.alloc, &mut self.parts, &mut self.part, sim, live)?;
+        let state = state_of(
+            self.alloc,
+            &mut self.parts,
+            &mut self.part,
+            sim,
+            live,
+            self.closes,
+        )?;
         let Some(state) = state else {
             self.states.leave_out();
             return Ok(false);
@@ -94,14 +112,14 @@ fn state_of(
     part: &mut Standing,
     sim: &Sim<'_>,
     live: &Live,
+    closes: bool,
 ) -> Result<Option<State>, AllocError>
     requires { IsTableOf sim.now.program live.now }
     ensures keeps { KeepsParts parts.old parts.new }
-    ensures parts { IfOk result (λ found. IfSome found (λ state. AreParts parts.new state (rows_of live.now sim.now))) }
-    ensures stands { StandsAt sim.now.program (length sim.now.machines) sim.now.run (rows_of live.now sim.now) }
+    ensures parts { IfOk result (λ found. IfSome found (λ state. AreParts parts.new state (state_rows closes live.now sim.now))) }
+    ensures stands { StandsBy closes sim.now.program (length sim.now.machines) sim.now.run (state_rows closes live.now sim.now) }
 {
-    part.clear();
-    sim.write_length(part)?;
+    write_first(sim, closes, part)?;
     let ranks = sim.ranks();
     let mut state = State::with_capacity(alloc, 1 + 2 * usize::from(ranks))?;
     if !add_part(parts, part, &mut state)? {
@@ -115,6 +133,21 @@ fn state_of(
         rank += 1;
     }
     Ok(Some(state))
+}
+
+// Writes how long the run is, in place of what was there, or nothing if the search closes over
+// states.
+fn write_first(sim: &Sim<'_>, closes: bool, part: &mut Standing) -> Result<(), AllocError>
+    ensures written { OnOk result (part.new ≡ first_rows closes sim.now.run) }
+    ensures stands { (t : Table) → IsTableOf sim.now.program t → StandsAt sim.now.program (length sim.now.machines) sim.now.run (rows_of t sim.now) }
+{
+    part.clear();
+    // its contract says what the parts of the ranks tell, with the length or without
+    sim.write_length(part)?;
+    if closes {
+        part.clear();
+    }
+    Ok(())
 }
 
 // Adds the parts of the rank to the state, and answers whether there is room for them.

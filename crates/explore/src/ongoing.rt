@@ -8,6 +8,7 @@ ghost use Rattle.explore.specs.Stems.{stems_of, whole};
 ghost use Rattle.explore.specs.Stops.{CanGoBack, KeepsStops};
 ghost use Rattle.explore.specs.Tables.{AreTablesOf};
 
+use crate::bounds::Limits;
 use crate::branch::Branch;
 use crate::explored::Explored;
 use crate::found::Found;
@@ -40,22 +41,24 @@ pub struct Search<'p> {
 }
 
 impl<'p> Search<'p> {
-    /// Nothing is found, and all is left.
+    /// Nothing is found, and all is left. If it closes over states, a run is left
+    /// where a run stood before, be that longer or shorter.
     pub fn new(
         alloc: Heap,
         program: &'p Program,
         ranks: u8,
-        steps: u32,
-        states: u32,
+        limits: Limits,
+        closes: bool,
     ) -> Result<Search<'p>, AllocError>
         requires some { 1 ≤ ranks }
         requires few { ranks ≤ most_ranks }
         ensures on { IfOk result (λ s. IsOn program.entry.now ranks s.path.sim s.pending.items s.found s.met s.out_of_steps) }
         ensures all { IfOk result (λ s. stems_of s.path.sim.run s.pending.items ≡ whole ∷ []) }
         ensures uncut { IfOk result (λ s. s.out_of_steps ≡ false) }
-        ensures back { IfOk result (λ s. CanGoBack steps s.path.sim s.path.left s.stops) }
+        ensures back { IfOk result (λ s. CanGoBack limits.steps s.path.sim s.path.left s.stops) }
+        ensures closes { IfOk result (λ s. s.met.closes ≡ closes) }
     {
-        let path = Path::new(alloc, program, ranks, steps)?;
+        let path = Path::new(alloc, program, ranks, limits.steps)?;
         let stops = Stops::new(alloc, &path)?;
         let mut pending = Vec::new(alloc);
         pending.push(Branch {
@@ -68,7 +71,7 @@ impl<'p> Search<'p> {
             stops,
             pending,
             found: Found::new(alloc),
-            met: Met::new(alloc, states),
+            met: Met::new(alloc, limits.states, closes),
             races: Races::new(alloc),
             out_of_steps: false,
         })
@@ -86,6 +89,7 @@ impl<'p> Search<'p> {
         ensures on { IfOk result (λ _. IsOn self.old.path.sim.program (length self.old.path.sim.machines) self.new.path.sim self.new.pending.items
             self.new.found self.new.met self.new.out_of_steps) }
         ensures none { result ≡ Ok false → self.new.pending.items ≡ [] }
+        ensures closes { IfOk result (λ _. self.new.met.closes ≡ self.old.met.closes) }
         ensures enough { result ≡ Ok true → NeedsFewer self.old.path.sim.program (length self.old.path.sim.machines) self.old.path.sim.run
             self.old.pending.items self.new.path.sim.run self.new.pending.items }
         ensures back { IfOk result (λ _. KeepsStops self.old.path.sim self.old.path.left self.old.stops self.new.path.sim self.new.path.left self.new.stops) }
@@ -113,6 +117,7 @@ impl<'p> Search<'p> {
         ensures on { IfOk result (λ _. IsOn self.old.path.sim.program (length self.old.path.sim.machines) self.new.path.sim self.new.pending.items
             self.new.found self.new.met self.new.out_of_steps) }
         ensures fewer { result ≡ Ok false → length self.new.pending.items ≤ length self.old.pending.items }
+        ensures closes { IfOk result (λ _. self.new.met.closes ≡ self.old.met.closes) }
         ensures enough { IfOk result (λ _. NeedsFewer self.old.path.sim.program (length self.old.path.sim.machines) self.old.path.sim.run
             (self.old.pending.items ++ branch ∷ []) self.new.path.sim.run self.new.pending.items) }
         ensures back { IfOk result (λ _. KeepsStops self.old.path.sim self.old.path.left self.old.stops self.new.path.sim self.new.path.left self.new.stops) }
@@ -153,10 +158,13 @@ impl<'p> Search<'p> {
         ensures found { AreGrouped self.entry.found result.outcomes result.left }
         ensures runs { result.runs ≡ runs }
         ensures steps { result.out_of_steps ≡ self.entry.out_of_steps }
-        ensures yes { result.complete ≡ true → (self.entry.pending.items ≡ []) × (self.entry.out_of_steps ≡ false) }
-        ensures no { result.complete ≡ false → self.entry.pending.items ≡ [] → self.entry.out_of_steps ≡ true }
+        ensures complete { result.complete ≡ true → (self.entry.pending.items ≡ []) × (self.entry.out_of_steps ≡ false) × (self.entry.met.closes ≡ false) }
+        ensures closed { result.closed ≡ true → (self.entry.pending.items ≡ []) × (self.entry.out_of_steps ≡ false) }
+        ensures plain { self.entry.met.closes ≡ false → result.closed ≡ false }
+        ensures no { result.complete ≡ false → result.closed ≡ false → self.entry.pending.items ≡ [] → self.entry.out_of_steps ≡ true }
     {
-        let complete = self.is_complete();
+        let all = self.is_done();
+        let closes = self.met.closes();
         let Search {
             path: _,
             stops: _,
@@ -172,13 +180,14 @@ impl<'p> Search<'p> {
             runs,
             states: met.states(),
             kept_all: met.kept_all(),
-            complete,
+            complete: all && !closes,
+            closed: all && closes,
             out_of_steps,
         }
     }
 
     // Whether all was searched.
-    fn is_complete(&self) -> bool
+    fn is_done(&self) -> bool
         ensures yes { result ≡ true → (self.now.pending.items ≡ []) × (self.now.out_of_steps ≡ false) }
         ensures no { result ≡ false → self.now.pending.items ≡ [] → self.now.out_of_steps ≡ true }
     {

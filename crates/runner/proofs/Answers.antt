@@ -6,8 +6,8 @@ use Rattle.audit.specs.Reachable.{IsReachable}
 use Rattle.command_line.specs.declared.job.Job.{Job}
 use Rattle.command_line.specs.declared.job.RunJob.{RunJob}
 use Rattle.runner.specs.Answers.{IsCheckAnswer, IsJobAnswer, IsReportText, IsRunAnswer}
-use Rattle.runner.proofs.Reading.{script_held_before}
-use Rattle.runner.specs.Reading.{IsProgramIn, IsScriptBy}
+use Rattle.runner.proofs.Reading.{program_of_lined, script_held_before}
+use Rattle.runner.specs.Reading.{IsLinedIn, IsProgramIn, IsScriptBy}
 use Rattle.runner.specs.Reasons.{IsRefusalOf}
 use Rattle.runner.specs.Refusals.{status_of}
 use Rattle.runner.specs.Reports.{IsReportOf, IsReportUnder}
@@ -31,13 +31,13 @@ is_report_under program ranks script steps report is_report within crashes lives
     record { is_report = is_report; within = within; crashes = crashes; lives = lives; unfinished = unfinished }
 
 -- a report under the script that is read once the program is, and within the job's steps
-pub is_report_of : (holds held : List ℕ → List ℕ → Type 0) (job : RunJob) (program : ProgramValue) (script : List ScriptLine) (steps : ℕ) (report : Report)
-    → IsProgramIn (held job.program.now) program → ((file text : List ℕ) → holds file text → held file text)
+pub is_report_of : (holds held : List ℕ → List ℕ → Type 0) (job : RunJob) (program : ProgramValue) (lines : List ℕ) (script : List ScriptLine)
+    (steps : ℕ) (report : Report) → IsLinedIn (held job.program.now) program lines → ((file text : List ℕ) → holds file text → held file text)
     → IsScriptBy holds job.ranks job.script script → steps ≡ job.steps → IsReportUnder program job.ranks script steps report
     → IsReportOf held job report
-is_report_of holds held job program script steps report read kept given is under = record {
+is_report_of holds held job program lines script steps report read kept given is under = record {
   program = program;
-  read = read;
+  read = program_of_lined (held job.program.now) program lines read;
   script = script;
   given = script_held_before holds held job.ranks job.script script kept given;
   under = subst (λ (s : ℕ). IsReportUnder program job.ranks script s report) is under;

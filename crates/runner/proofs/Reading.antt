@@ -4,7 +4,8 @@ use Rattle.std.specs.Borrow.{Bor}
 use Rattle.world_model.specs.EventsText.Events.{events_of}
 use Rattle.rank_language.specs.Correct.{IsProgramOf}
 use Rattle.rank_language.specs.Program.{ProgramValue}
-use Rattle.runner.specs.Reading.{AreEventsIn, IsProgramIn, IsScriptBy, IsScriptIn}
+use Rattle.rank_language.specs.StandOn.{IsLinedOf}
+use Rattle.runner.specs.Reading.{AreEventsIn, IsLinedIn, IsProgramIn, IsScriptBy, IsScriptIn}
 use Rattle.rank_text.specs.Scripts.Script.{first_fault, script_lines}
 use Rattle.rank_text.specs.declared.script.line.ScriptLine.{ScriptLine}
 use Rattle.bare_world.specs.declared.event.WorldEvent.{WorldEvent}
@@ -13,6 +14,20 @@ use Rattle.bare_world.specs.declared.event.WorldEvent.{WorldEvent}
 pub is_program_in : (holds : List ℕ → Type 0) (text : List ℕ) (program : ProgramValue)
     → holds text → IsProgramOf text program → IsProgramIn holds program
 is_program_in holds text program held read = record { text = text; held = held; read = read }
+
+-- with the lines of its statements
+pub is_lined_in : (holds : List ℕ → Type 0) (text : List ℕ) (program : ProgramValue) (lines : List ℕ)
+    → holds text → IsLinedOf text program lines → IsLinedIn holds program lines
+is_lined_in holds text program lines held read = record { text = text; held = held; read = read }
+
+-- the program with lines is the program
+pub program_of_lined : (holds : List ℕ → Type 0) (program : ProgramValue) (lines : List ℕ) → IsLinedIn holds program lines
+    → IsProgramIn holds program
+program_of_lined holds program lines lined = record {
+  text = lined.text;
+  held = lined.held;
+  read = record { forms = lined.read.forms; reads = lined.read.reads; program = lined.read.program };
+}
 
 -- the lines of a script in a text that the file holds
 pub is_script_in : (holds : List ℕ → Type 0) (ranks : ℕ) (text : List ℕ) (script : List ScriptLine)

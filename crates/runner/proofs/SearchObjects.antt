@@ -1,7 +1,7 @@
 -- No number in what a search found is a float, so its text is that of its parts.
 use Rattle.std.proofs.Common.{◌≡◌, ℕ, ◌+◌, ℤ, pos, negsuc, Bool, true, false, ◌||◌, List, [], ◌∷◌, ◌++◌, Option, Some, None, map, codes, refl, ap, ◌∙◌}
 use Rattle.std.specs.Prelude.{if◌then◌else◌}
-use Rattle.std.proofs.Common.{slice_get, Ordering, Less, Equal, Greater, nat_cmp}
+use Rattle.std.proofs.Common.{slice_get, slice_index_or, Ordering, Less, Equal, Greater, nat_cmp}
 use Rattle.std.proofs.lemmas.Bool.{or_from, or_parts}
 use Rattle.std.specs.Cmp.Lexicographic.{slice_cmp}
 use Rattle.std.specs.Ordering.{match_ordering}
@@ -9,7 +9,6 @@ use Rattle.audit.specs.declared.outcome.End.{End}
 use Rattle.audit.specs.declared.outcome.End.TheVariants as end
 use Rattle.crash_free.specs.declared.choice.Choice.{Choice}
 use Rattle.crash_free.specs.declared.choice.Choice.TheVariants as choice
-use Rattle.crash_free.specs.declared.leftover.Leftover.{Leftover}
 use Rattle.crash_free.specs.declared.leftover.Mark.{Mark}
 use Rattle.crash_free.specs.declared.leftover.Mark.TheVariants as known
 use Rattle.explore.specs.declared.moves.Noted.{Noted}
@@ -20,10 +19,11 @@ use Rattle.serde_json.specs.Data as json
 use Rattle.serde_json.specs.View.{items_of, items_view, view}
 use Rattle.serde_json.specs.declared.value.Value.{Value}
 use Rattle.serde_json.specs.Written.{compact_text, has_float, items_have_float, members_have_float}
-use Rattle.runner.specs.SearchObject.{IsSearchObject, array_of, choice_members, choice_object, count, count_members, end_members, mark_at}
+use Rattle.runner.specs.SearchObject.{IsSearchObject, array_of, choice_members, choice_object, closed_members, count, count_members, end_members, mark_at}
 use Rattle.runner.specs.SearchObject.{mark_value, object_of, outcome_object, outcome_objects, place_members, rank_object, rank_objects}
 use Rattle.runner.specs.SearchObject.{behind_first, first_of, found_members, is_safe_if_known, known_members, left_array, left_members, left_object}
 use Rattle.runner.specs.SearchObject.{safety_members, says_none, search_object, value, wait_object, waits_objects, with_members}
+use Rattle.runner.specs.declared.explored.lined.LinedLeftover.{LinedLeftover}
 use Rattle.runner.specs.declared.explored.safety.Safety.{Safety}
 use Rattle.runner.specs.declared.explored.safety.Safety.TheVariants as safety
 use Rattle.runner.specs.declared.explored.safety.Wait.{Wait}
@@ -132,23 +132,25 @@ no_float-known (known.Call kind (Some ordinal)) = (refl, (no_float-value ordinal
 no_float-known (known.Call kind None) = (refl, tt)
 
 -- a message that was never received
-no_float-left : (x : Leftover) → has_float (left_object x) ≡ false
+no_float-left : (x : LinedLeftover) → has_float (left_object x) ≡ false
 no_float-left x =
-    no_float-object_of ((codes "rank", count x.rank) ∷ (codes "source", count x.source) ∷ known_members x.mark) (refl, (refl, no_float-known x.mark))
+    let place = place_members x.message.rank x.line in
+    let known = (codes "source", count x.message.source) ∷ known_members x.message.mark in
+    no_float-object_of (place ++ known) (both_clean place known (no_float-place _ _) (refl, no_float-known x.message.mark))
 
 -- those of a run
-no_float-messages : (xs : List Leftover) → items_have_float (items_of (map left_object xs)) ≡ false
+no_float-messages : (xs : List LinedLeftover) → items_have_float (items_of (map left_object xs)) ≡ false
 no_float-messages [] = refl
 no_float-messages (x ∷ xs) = or_from (has_float (left_object x)) (items_have_float (items_of (map left_object xs))) (no_float-left x) (no_float-messages xs)
 
 -- of each of some runs
-no_float-listed : (listed : List (List Leftover)) → items_have_float (items_of (map left_array listed)) ≡ false
+no_float-listed : (listed : List (List LinedLeftover)) → items_have_float (items_of (map left_array listed)) ≡ false
 no_float-listed [] = refl
 no_float-listed (xs ∷ others) =
     or_from (has_float (left_array xs)) (items_have_float (items_of (map left_array others))) (no_float-messages xs) (no_float-listed others)
 
 -- so if something is said of it
-no_float-left_members : (listed : List (List Leftover)) → HaveNoFloat (left_members listed)
+no_float-left_members : (listed : List (List LinedLeftover)) → HaveNoFloat (left_members listed)
 no_float-left_members listed = go (says_none listed)
   where
     go : (b : Bool) → HaveNoFloat (if b then [] else ((codes "unreceived", array_of (map left_array listed)) ∷ []))
@@ -156,7 +158,7 @@ no_float-left_members listed = go (says_none listed)
     go false = (no_float-listed listed, tt)
 
 -- an outcome, with its choices, its mark and its leftovers
-no_float-outcome : (lines : List ℕ) (number : ℕ) (outcome : List RankOutcome) (choices : List Noted) (mark : Option Bool) (listed : List (List Leftover))
+no_float-outcome : (lines : List ℕ) (number : ℕ) (outcome : List RankOutcome) (choices : List Noted) (mark : Option Bool) (listed : List (List LinedLeftover))
     → has_float (outcome_object lines number outcome choices mark listed) ≡ false
 no_float-outcome lines number outcome choices mark listed =
     no_float-object_of
@@ -166,21 +168,27 @@ no_float-outcome lines number outcome choices mark listed =
     (refl, (no_float-ranks 0 outcome, (no_float-choices lines choices, (no_float-mark mark, no_float-left_members listed))))
 
 -- so of all outcomes
-no_float-outcomes : (lines : List ℕ) (marks : List (Option Bool)) (index : ℕ) (outcomes : List (List RankOutcome)) (choices : List (List Noted))
-    (left : List (List (List Leftover))) → items_have_float (items_of (outcome_objects lines marks index outcomes choices left)) ≡ false
-no_float-outcomes lines marks index [] choices left = refl
-no_float-outcomes lines marks index (outcome ∷ outcomes) choices left =
-    or_from _ _ (no_float-outcome lines (index + 1) outcome (first_of choices) (mark_at marks index) (first_of left))
-    (no_float-outcomes lines marks (index + 1) outcomes (behind_first choices) (behind_first left))
+no_float-outcomes : (lines : List ℕ) (left : List (List (List LinedLeftover))) (marks : List (Option Bool)) (index : ℕ)
+    (outcomes : List (List RankOutcome)) (choices : List (List Noted))
+    → items_have_float (items_of (outcome_objects lines left marks index outcomes choices)) ≡ false
+no_float-outcomes lines left marks index [] choices = refl
+no_float-outcomes lines left marks index (outcome ∷ outcomes) choices =
+    or_from _ _ (no_float-outcome lines (index + 1) outcome (first_of choices) (mark_at marks index) (slice_index_or left index []))
+    (no_float-outcomes lines left marks (index + 1) outcomes (behind_first choices))
+
+-- that a search is closed
+no_float-closed : (closed : Bool) → HaveNoFloat (closed_members closed)
+no_float-closed true = (refl, tt)
+no_float-closed false = tt
 
 -- nor is there one in what was found, if there is none in the races
-no_float-found : (found : ExploredValue) (marks : List (Option Bool)) (lines : List ℕ) (races : Items) → items_have_float races ≡ false
-    → members_have_float (found_members found marks lines races) ≡ false
-no_float-found found marks lines races clean =
+no_float-found : (found : ExploredValue) (left : List (List (List LinedLeftover))) (marks : List (Option Bool)) (lines : List ℕ) (races : Items)
+    → items_have_float races ≡ false → members_have_float (found_members found left marks lines races) ≡ false
+no_float-found found left marks lines races clean =
     no_float-with_members
-    ((codes "outcomes", array_of (outcome_objects lines marks 0 found.outcomes found.choices found.left)) ∷ (codes "races", json.array races)
+    ((codes "outcomes", array_of (outcome_objects lines left marks 0 found.outcomes found.choices)) ∷ (codes "races", json.array races)
     ∷ count_members found) json.no_members
-    (no_float-outcomes lines marks 0 found.outcomes found.choices found.left, (clean, (refl, (refl, (refl, (refl, (refl, tt))))))) refl
+    (no_float-outcomes lines left marks 0 found.outcomes found.choices, (clean, (refl, (refl, (refl, (refl, (refl, no_float-closed found.closed))))))) refl
 
 -- ranks that wait, and their lines
 no_float-wait_objects : (waits : List Wait) → items_have_float (items_of (map wait_object waits)) ≡ false
@@ -197,11 +205,11 @@ no_float-waits (safety.NotSafe waits) = no_float-wait_objects waits.ranks.items
 no_float-waits (safety.Unknown why) = refl
 
 -- nor is there one in all, if there is none in the races
-no_float-search : (found : ExploredValue) (marks : List (Option Bool)) (lines : List ℕ) (races : Items) (told : Safety) → items_have_float races ≡ false
-    → has_float (search_object found marks lines races told) ≡ false
-no_float-search found marks lines races told clean =
-    no_float-with_members (safety_members told) (found_members found marks lines races)
-    (no_float-mark (is_safe_if_known told), (no_float-waits told, tt)) (no_float-found found marks lines races clean)
+no_float-search : (found : ExploredValue) (left : List (List (List LinedLeftover))) (marks : List (Option Bool)) (lines : List ℕ) (races : Items)
+    (told : Safety) → items_have_float races ≡ false → has_float (search_object found left marks lines races told) ≡ false
+no_float-search found left marks lines races told clean =
+    no_float-with_members (safety_members told) (found_members found left marks lines races)
+    (no_float-mark (is_safe_if_known told), (no_float-waits told, tt)) (no_float-found found left marks lines races clean)
 
 -- a value without a float is pushed to some without
 pub pushed : (list : List Value) (one : Value) → items_have_float (items_view list) ≡ false → has_float (view one) ≡ false
@@ -212,13 +220,14 @@ pushed (first ∷ others) one rest clean =
     or_from (has_float (view first)) (items_have_float (items_view (others ++ one ∷ []))) list.0 (pushed others one list.1 clean)
 
 -- the object's text and a line feed
-pub is_search_object : (found : ExploredValue) (marks : List (Option Bool)) (lines : List ℕ) (told : Safety) (races : Items) (before : Members) (all : Data)
-    (written text : List ℕ) → items_have_float races ≡ false → before ≡ found_members found marks lines races
+pub is_search_object : (found : ExploredValue) (left : List (List (List LinedLeftover))) (marks : List (Option Bool)) (lines : List ℕ) (told : Safety)
+    (races : Items) (before : Members) (all : Data) (written text : List ℕ) → items_have_float races ≡ false
+    → before ≡ found_members found left marks lines races
     → all ≡ json.object (with_members (safety_members told) before) → (has_float all ≡ false → written ≡ compact_text all) → text ≡ written ++ 10 ∷ []
-    → IsSearchObject found marks lines told text
-is_search_object found marks lines told races before all written text clean first last says whole =
-    let is : all ≡ search_object found marks lines races told = last ∙ ap (λ held. json.object (with_members (safety_members told) held)) first in
-    let none : has_float all ≡ false = ap has_float is ∙ no_float-search found marks lines races told clean in
+    → IsSearchObject found left marks lines told text
+is_search_object found left marks lines told races before all written text clean first last says whole =
+    let is : all ≡ search_object found left marks lines races told = last ∙ ap (λ held. json.object (with_members (safety_members told) held)) first in
+    let none : has_float all ≡ false = ap has_float is ∙ no_float-search found left marks lines races told clean in
     record {
       races = races;
       no_fractions = clean;

@@ -5,6 +5,7 @@ use Rattle.command_line.specs.declared.exploring.ExploreForm.TheVariants as form
 use Rattle.command_line.specs.declared.exploring.ExploreJob.{ExploreJob}
 use Rattle.crash_free.specs.Sim.{start_of}
 use Rattle.explore.specs.Counting.{GoesBeyond}
+use Rattle.explore.specs.Cycles.{MayGoOnForEver}
 use Rattle.explore.specs.Endings.{AreLeftovers}
 use Rattle.explore.specs.Explored.{ExploredValue}
 use Rattle.explore.specs.Exploring.{AlwaysEndsIn}
@@ -43,18 +44,21 @@ pub is_found_by : (program : ProgramValue) (job : ExploreJob) (found : ExploredV
     → (found.complete ≡ true → AlwaysEndsIn (start_of program job.ranks) job.ranks (IsAmong found.outcomes) [])
     → (IsSmall program job.ranks runs steps → found.complete ≡ true)
     → (found.complete ≡ false → (found.runs ≡ runs) ⊎ IsTrue found.out_of_steps)
-    → (found.out_of_steps ≡ true → GoesBeyond program job.ranks steps) → AreDistinct found.outcomes → found.runs ≤ runs
+    → (found.out_of_steps ≡ true → GoesBeyond program job.ranks steps) → AreDistinct found.outcomes → found.runs ≤ runs → found.closed ≡ false
     → IsFoundBy program job found
-is_found_by program job found runs steps these those law possible complete left ends small stopped beyond distinct few_runs = record {
+is_found_by program job found runs steps these those law possible complete left ends small stopped beyond distinct few_runs plain = record {
   possible = possible;
   complete = complete;
+  closed = λ is. absurd (no is);
   left = left;
+  all_left = λ is. absurd (no is);
+  endless = λ is. absurd (no is);
   ends = ends;
   masks = masks;
   only = λ all outcome is. prints_only program job.ranks found.outcomes outcome (masks all) is;
   small = subst (λ (r : ℕ). IsSmall program job.ranks r job.steps → found.complete ≡ true) these
       (subst (λ (s : ℕ). IsSmall program job.ranks runs s → found.complete ≡ true) those small);
-  stopped = subst (λ (r : ℕ). found.complete ≡ false → (found.runs ≡ r) ⊎ IsTrue found.out_of_steps) these stopped;
+  stopped = λ is _. subst (λ (r : ℕ). (found.runs ≡ r) ⊎ IsTrue found.out_of_steps) these (stopped is);
   beyond = subst (λ (s : ℕ). found.out_of_steps ≡ true → GoesBeyond program job.ranks s) those beyond;
   distinct = distinct;
   few_runs = subst (λ (r : ℕ). found.runs ≤ r) these few_runs;
@@ -62,6 +66,39 @@ is_found_by program job found runs steps these those law possible complete left 
   where
     masks : found.complete ≡ true → AreMasked program job.ranks found.outcomes
     masks all o final = law program job.ranks found.outcomes o (ends all) final
+
+    no : found.closed ≡ true → ⊥
+    no is = (let e : true ≡ false = sym is ∙ plain in absurd cc)
+
+-- what a search found that closes over states, where one that isn't complete was made before
+pub ends_found_by : (program : ProgramValue) (job : ExploreJob) (before found : ExploredValue) (runs steps : ℕ) → runs ≡ job.runs → steps ≡ job.steps
+    → before.complete ≡ false → (IsSmall program job.ranks runs steps → before.complete ≡ true)
+    → AreAll program job.ranks found.outcomes → AreLeftovers program job.ranks true found.outcomes found.left → MayGoOnForEver program job.ranks
+    → (found.closed ≡ true) × (found.complete ≡ false) → AreDistinct found.outcomes → found.runs ≤ runs
+    → (found.out_of_steps ≡ true → GoesBeyond program job.ranks steps) → IsFoundBy program job found
+ends_found_by program job before found runs steps these those stopped small all left endless closed distinct few_runs beyond = record {
+  possible = all.possible;
+  complete = λ _. all;
+  closed = λ _. all;
+  left = record { as_many = left.as_many; some_run = left.some_run; no_others = λ _. left.no_others refl; distinct = left.distinct };
+  all_left = λ _. left;
+  endless = λ _. endless;
+  ends = λ is. absurd (no is);
+  masks = λ is. absurd (no is);
+  only = λ is. absurd (no is);
+  small = λ is. absurd (no_small (subst (λ (r : ℕ). IsSmall program job.ranks r steps) (sym these)
+      (subst (λ (s : ℕ). IsSmall program job.ranks job.runs s) (sym those) is)));
+  stopped = λ _ not. (let e : true ≡ false = sym closed.0 ∙ not in absurd cc);
+  beyond = subst (λ (s : ℕ). found.out_of_steps ≡ true → GoesBeyond program job.ranks s) those beyond;
+  distinct = distinct;
+  few_runs = subst (λ (r : ℕ). found.runs ≤ r) these few_runs;
+}
+  where
+    no : found.complete ≡ true → ⊥
+    no is = (let e : true ≡ false = sym is ∙ closed.1 in absurd cc)
+
+    no_small : IsSmall program job.ranks runs steps → ⊥
+    no_small is = (let e : true ≡ false = sym (small is) ∙ stopped in absurd cc)
 
 -- the text of what was found is printed where it is asked for
 pub text_printed : (lines : List ℕ) (program : ProgramValue) (job : ExploreJob) (found : ExploredValue) (told : Safety) (out : List ℕ)
@@ -76,7 +113,7 @@ text_printed lines program job found told out is text =
 
 -- so is the short one
 pub summary_printed : (lines : List ℕ) (program : ProgramValue) (job : ExploreJob) (found : ExploredValue) (told : Safety) (out : List ℕ)
-    → job.form ≡ form.Summary → IsMarkedSummary job.synchronous program job.ranks found told job.runs out → IsPrinted lines program job found told out
+    → job.form ≡ form.Summary → IsMarkedSummary job.synchronous lines program job.ranks found told job.runs out → IsPrinted lines program job found told out
 summary_printed lines program job found told out is text =
     record {
       text = λ other. (let e : form.Summary ≡ form.Text = sym is ∙ other in absurd cc);

@@ -1,7 +1,6 @@
 -- How one outcome after another is written.
-use Rattle.std.proofs.Common.{◌≡◌, ℕ, ◌+◌, Bool, true, List, [], ◌++◌, Option, Some, codes, length, slice_get, refl, ap, subst, sym, ◌∙◌}
+use Rattle.std.proofs.Common.{◌≡◌, ℕ, ◌+◌, Bool, true, List, [], ◌++◌, Option, Some, codes, length, slice_get, slice_index_or, refl, ap, subst, sym, ◌∙◌}
 use Rattle.std.proofs.lemmas.List.{append-nil, length-map}
-use Rattle.crash_free.specs.declared.leftover.Leftover.{Leftover}
 use Rattle.explore.specs.declared.moves.Noted.{Noted}
 use Rattle.explore.specs.Explored.{ExploredValue, OutcomeValue, rank_outcomes}
 use Rattle.explore.specs.Shown.{AreMarked}
@@ -14,23 +13,25 @@ use Rattle.runner.specs.OutcomesText.{AreWritten, GoesOnAt, IsExploredText, IsMa
 use Rattle.runner.specs.Partings.{ArePartings}
 use Rattle.runner.specs.Safety.{safety_behind}
 use Rattle.runner.specs.SearchObject.{IsSearchObject}
+use Rattle.runner.specs.SentLines.{AreLined}
+use Rattle.runner.specs.declared.explored.lined.LinedLeftover.{LinedLeftover}
 use Rattle.runner.specs.declared.explored.parting.Parted.{Parted}
 use Rattle.runner.specs.declared.explored.safety.Safety.{Safety}
 use Rattle.run_events.specs.Halting.{AllHalt}
 
 -- in an empty text none is written
-pub none_written : (outcomes : List (List RankOutcome)) (choices : List (List Noted)) (left : List (List (List Leftover))) (lines text : List ℕ)
+pub none_written : (outcomes : List (List RankOutcome)) (choices : List (List Noted)) (left : List (List (List LinedLeftover))) (lines text : List ℕ)
     → text ≡ [] → AreWritten outcomes choices left lines 0 text
 none_written outcomes choices left lines text empty = subst (AreWritten outcomes choices left lines 0) (sym empty) AreWritten.none
 
 -- behind the first ones the next is written
-pub one_more : (outcomes : List (List RankOutcome)) (choices : List (List Noted)) (left : List (List (List Leftover))) (lines : List ℕ) (count : ℕ)
-    (before after : List ℕ) (outcome : List RankOutcome) (parted : List Parted) (listed : List (List Leftover))
+pub one_more : (outcomes : List (List RankOutcome)) (choices : List (List Noted)) (left : List (List (List LinedLeftover))) (lines : List ℕ) (count : ℕ)
+    (before after : List ℕ) (outcome : List RankOutcome) (parted : List Parted)
     → AreWritten outcomes choices left lines count before → slice_get outcomes count ≡ Some outcome → ArePartings choices count parted
-    → slice_get left count ≡ Some listed → after ≡ before ++ one_text (count + 1) outcome lines parted listed
+    → after ≡ before ++ one_text (count + 1) outcome lines parted (slice_index_or left count [])
     → AreWritten outcomes choices left lines (count + 1) after
-one_more outcomes choices left lines count before after outcome parted listed written there partings listed_there appended =
-    subst (AreWritten outcomes choices left lines (count + 1)) (sym appended) (AreWritten.more outcome parted listed written there partings listed_there)
+one_more outcomes choices left lines count before after outcome parted written there partings appended =
+    subst (AreWritten outcomes choices left lines (count + 1)) (sym appended) (AreWritten.more outcome parted written there partings)
 
 -- the line that says that the program is safe
 pub safe_text : (synchronous : Bool) (found : ExploredValue) (before after : List ℕ) → synchronous ≡ true → found.complete ≡ true → AllHalt found.outcomes
@@ -45,11 +46,11 @@ pub not_safe_text : (synchronous : Bool) (found : ExploredValue) (before after :
 not_safe_text synchronous found before after not same = ([], IsSafeText.not_safe not refl, same ∙ sym (append-nil before))
 
 -- each outcome, whether the program is safe, and what the outcomes mean
-pub is_explored_text : (synchronous : Bool) (found : ExploredValue) (marks : List (Option Bool)) (cycle : List ℕ) (runs : ℕ) (lines outcomes between text : List ℕ)
-    → AreWritten found.outcomes found.choices found.left lines (length found.outcomes) outcomes
+pub is_explored_text : (synchronous : Bool) (found : ExploredValue) (left : List (List (List LinedLeftover))) (marks : List (Option Bool))
+    (cycle : List ℕ) (runs : ℕ) (lines outcomes between text : List ℕ) → AreWritten found.outcomes found.choices left lines (length found.outcomes) outcomes
     → (safe : List ℕ) × IsSafeText synchronous found safe × (between ≡ outcomes ++ safe) → text ≡ between ++ meaning_text found marks cycle runs
-    → IsExploredText synchronous found marks cycle runs lines text
-is_explored_text synchronous found marks cycle runs lines outcomes between text each safe whole = record {
+    → IsExploredText synchronous found left marks cycle runs lines text
+is_explored_text synchronous found left marks cycle runs lines outcomes between text each safe whole = record {
   outcomes = outcomes;
   each = each;
   safe = safe.0;
@@ -58,10 +59,10 @@ is_explored_text synchronous found marks cycle runs lines outcomes between text 
 }
 
 -- behind some lines whether the program is safe, and what the outcomes mean
-pub is_summary : (synchronous : Bool) (found : ExploredValue) (marks : List (Option Bool)) (cycle : List ℕ) (runs : ℕ) (races shorts between text : List ℕ)
-    → shorts ≡ races ++ shorts_text 1 found.left → (safe : List ℕ) × IsSafeText synchronous found safe × (between ≡ shorts ++ safe)
-    → text ≡ between ++ meaning_text found marks cycle runs → IsSummary synchronous found marks cycle runs text
-is_summary synchronous found marks cycle runs races shorts between text listed safe whole = record {
+pub is_summary : (synchronous : Bool) (found : ExploredValue) (left : List (List (List LinedLeftover))) (marks : List (Option Bool))
+    (cycle : List ℕ) (runs : ℕ) (races shorts between text : List ℕ) → shorts ≡ races ++ shorts_text 1 left → (safe : List ℕ) × IsSafeText synchronous found safe × (between ≡ shorts ++ safe)
+    → text ≡ between ++ meaning_text found marks cycle runs → IsSummary synchronous found left marks cycle runs text
+is_summary synchronous found left marks cycle runs races shorts between text listed safe whole = record {
   races = races;
   safe = safe.0;
   is_safe = safe.1;
@@ -70,26 +71,47 @@ is_summary synchronous found marks cycle runs races shorts between text listed s
 
 -- the outcomes, with their own marks, and behind them whether the program is safe
 pub is_marked : (synchronous : Bool) (lines : List ℕ) (program : ProgramValue) (ranks : ℕ) (found : ExploredValue) (told : Safety)
-    (marks : List (Option Bool)) (cycle : List ℕ) (runs : ℕ) (before text : List ℕ) → AreMarked program ranks found.outcomes found.choices marks
-    → GoesOnAt program ranks cycle → IsExploredText synchronous found marks cycle runs lines before → text ≡ before ++ safety_behind synchronous told
+    (left : List (List (List LinedLeftover))) (marks : List (Option Bool)) (cycle : List ℕ) (runs : ℕ) (before text : List ℕ)
+    → AreLined program ranks lines found.outcomes found.left left → AreMarked program ranks found.outcomes found.choices marks
+    → GoesOnAt program ranks cycle → IsExploredText synchronous found left marks cycle runs lines before → text ≡ before ++ safety_behind synchronous told
     → IsMarkedText synchronous lines program ranks found told runs text
-is_marked synchronous lines program ranks found told marks cycle runs before text marked goes_on printed whole =
-    record { marks = marks; marked = marked; cycle = cycle; goes_on = goes_on; before = before; printed = printed; whole = whole }
+is_marked synchronous lines program ranks found told left marks cycle runs before text lined marked goes_on printed whole = record {
+  marks = marks;
+  marked = marked;
+  cycle = cycle;
+  goes_on = goes_on;
+  before = before;
+  left = left;
+  lined = lined;
+  printed = printed;
+  whole = whole;
+}
 
 -- so they are as an object
 pub is_marked_object : (lines : List ℕ) (program : ProgramValue) (ranks : ℕ) (found : ExploredValue) (told : Safety)
-    (marks : List (Option Bool)) (text : List ℕ) → AreMarked program ranks found.outcomes found.choices marks
-    → IsSearchObject found marks lines told text → IsMarkedObject lines program ranks found told text
-is_marked_object lines program ranks found told marks text marked written =
-    record { marks = marks; marked = marked; written = written }
+    (left : List (List (List LinedLeftover))) (marks : List (Option Bool)) (text : List ℕ)
+    → AreLined program ranks lines found.outcomes found.left left → AreMarked program ranks found.outcomes found.choices marks
+    → IsSearchObject found left marks lines told text → IsMarkedObject lines program ranks found told text
+is_marked_object lines program ranks found told left marks text lined marked written =
+    record { marks = marks; marked = marked; left = left; lined = lined; written = written }
 
 -- in short too
-pub is_marked_summary : (synchronous : Bool) (program : ProgramValue) (ranks : ℕ) (found : ExploredValue) (told : Safety) (marks : List (Option Bool))
-    (cycle : List ℕ) (runs : ℕ) (before text : List ℕ) → AreMarked program ranks found.outcomes found.choices marks → GoesOnAt program ranks cycle
-    → IsSummary synchronous found marks cycle runs before → text ≡ before ++ safety_behind synchronous told
-    → IsMarkedSummary synchronous program ranks found told runs text
-is_marked_summary synchronous program ranks found told marks cycle runs before text marked goes_on printed whole =
-    record { marks = marks; marked = marked; cycle = cycle; goes_on = goes_on; before = before; printed = printed; whole = whole }
+pub is_marked_summary : (synchronous : Bool) (lines : List ℕ) (program : ProgramValue) (ranks : ℕ) (found : ExploredValue) (told : Safety)
+    (left : List (List (List LinedLeftover))) (marks : List (Option Bool)) (cycle : List ℕ) (runs : ℕ) (before text : List ℕ)
+    → AreLined program ranks lines found.outcomes found.left left → AreMarked program ranks found.outcomes found.choices marks
+    → GoesOnAt program ranks cycle → IsSummary synchronous found left marks cycle runs before → text ≡ before ++ safety_behind synchronous told
+    → IsMarkedSummary synchronous lines program ranks found told runs text
+is_marked_summary synchronous lines program ranks found told left marks cycle runs before text lined marked goes_on printed whole = record {
+  marks = marks;
+  marked = marked;
+  cycle = cycle;
+  goes_on = goes_on;
+  before = before;
+  left = left;
+  lined = lined;
+  printed = printed;
+  whole = whole;
+}
 
 -- as many outcomes as are seen were found
 pub as_many : (xs : List OutcomeValue) → length (rank_outcomes xs) ≡ length xs

@@ -11,6 +11,7 @@ pub mod Events
 pub mod Traces
 pub mod Partings
 pub mod LeftText
+pub mod SentLines
 pub mod Meanings
 pub mod Waits
 pub mod Safety

@@ -112,19 +112,28 @@ cycle_line lines = cycle_words ++ named_lines lines ++ codes "\n"
 abbrev pub cycle_text : List ℕ → List ℕ
 cycle_text lines = if length lines == 0 then [] else cycle_line lines
 
--- whether a state came back, and which limits were reached, if these aren't all outcomes
+-- that the outcomes of all runs that end were found, or which limits were reached
+abbrev pub stop_text : ExploredValue → ℕ → List ℕ
+stop_text found runs =
+    if found.closed then codes "# each run that ends has one of these outcomes\n" else (steps_text found ++ runs_text found runs)
+
+-- whether a state came back, and where the search stopped, if the ranks may go on for ever or these aren't all outcomes
 abbrev pub limits_text : ExploredValue → List ℕ → ℕ → List ℕ
-limits_text found cycle runs = if found.complete then [] else (cycle_text cycle ++ steps_text found ++ runs_text found runs)
+limits_text found cycle runs = if found.complete then [] else (cycle_text cycle ++ stop_text found runs)
 
 -- the line that says how many states were kept, if there were more
 abbrev pub states_text : ExploredValue → List ℕ
 states_text found = if found.kept_all then [] else
     (codes "# states kept: " ++ decimal found.states ++ codes "; behind that no runs were merged: allow more (--states)\n")
 
+-- whether these are all outcomes, and whether those of runs that end are
+abbrev pub whole_text : ExploredValue → List ℕ
+whole_text found = if found.complete then codes ", complete" else (if found.closed then codes ", closed" else codes ", stopped")
+
 -- the last line: how many outcomes were found in how many runs, and whether these are all
 abbrev pub count_text : ExploredValue → List ℕ
 count_text found = codes "outcomes " ++ decimal (length found.outcomes) ++ codes ", runs " ++ decimal found.runs
-    ++ (if found.complete then codes ", complete" else codes ", stopped") ++ codes "\n"
+    ++ whole_text found ++ codes "\n"
 
 -- what the outcomes mean, with these marks, that were found in no more than so many runs, while a state came back at these lines, and
 -- the last line

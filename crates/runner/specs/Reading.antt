@@ -5,6 +5,7 @@ use Rattle.std.specs.Borrow.{Bor}
 use Rattle.world_model.specs.EventsText.Events.{events_of}
 use Rattle.rank_language.specs.Correct.{IsProgramOf}
 use Rattle.rank_language.specs.Program.{ProgramValue}
+use Rattle.rank_language.specs.StandOn.{IsLinedOf}
 use Rattle.rank_text.specs.Scripts.Script.{first_fault, script_lines}
 use Rattle.rank_text.specs.declared.script.line.ScriptLine.{ScriptLine}
 use Rattle.bare_world.specs.declared.event.WorldEvent.{WorldEvent}
@@ -14,6 +15,12 @@ pub record IsProgramIn (holds : List ℕ → Type 0) (program : ProgramValue) : 
   pub text : List ℕ
   pub held : holds text
   pub read : IsProgramOf text program
+
+-- This is the program of a text that the file holds, and its statements stand on these lines.
+pub record IsLinedIn (holds : List ℕ → Type 0) (program : ProgramValue) (lines : List ℕ) : Type 0 where
+  pub text : List ℕ
+  pub held : holds text
+  pub read : IsLinedOf text program lines
 
 -- These are the lines of a script, for a run of so many ranks, of a text that the file holds.
 pub record IsScriptIn (holds : List ℕ → Type 0) (ranks : ℕ) (script : List ScriptLine) : Type 0 where

@@ -1,12 +1,11 @@
 -- What a search found, as an object of JSON (RFC 8259; docs/FORMATS.md, "Standard output of
 -- `explore`"). The object's text has its members sorted by their names.
-use Rattle.std.specs.Prelude.{◌≡◌, ◌==◌, ℕ, ℤ, ◌+◌, Bool, true, false, if◌then◌else◌, List, [], ◌∷◌, ◌++◌, Option, Some, None, length, map, slice_get, codes}
+use Rattle.std.specs.Prelude.{◌≡◌, ◌==◌, ℕ, ℤ, ◌+◌, Bool, true, false, if◌then◌else◌, List, [], ◌∷◌, ◌++◌, Option, Some, None, length, map, slice_get, slice_index_or, codes}
 use Rattle.std.specs.Option.{option_flatten}
 use Rattle.audit.specs.declared.outcome.End.{End}
 use Rattle.audit.specs.declared.outcome.End.TheVariants as end
 use Rattle.crash_free.specs.declared.choice.Choice.{Choice}
 use Rattle.crash_free.specs.declared.choice.Choice.TheVariants as choice
-use Rattle.crash_free.specs.declared.leftover.Leftover.{Leftover}
 use Rattle.crash_free.specs.declared.leftover.Mark.{Mark}
 use Rattle.crash_free.specs.declared.leftover.Mark.TheVariants as known
 use Rattle.explore.specs.declared.moves.Noted.{Noted}
@@ -14,6 +13,7 @@ use Rattle.explore.specs.Explored.{ExploredValue}
 use Rattle.audit.specs.FinalRuns.Maximal.{RankOutcome}
 use Rattle.rank_machine.specs.Faults.{fault_name, fault_number}
 use Rattle.run_shown.specs.Trace.Words.{name_text}
+use Rattle.runner.specs.declared.explored.lined.LinedLeftover.{LinedLeftover}
 use Rattle.runner.specs.declared.explored.safety.Safety.{Safety}
 use Rattle.runner.specs.declared.explored.safety.Safety.TheVariants as safety
 use Rattle.runner.specs.declared.explored.safety.Wait.{Wait}
@@ -95,27 +95,27 @@ abbrev pub known_members : Mark → List (List ℕ × Data)
 known_members (known.Tag tag) = (codes "tag", count tag) ∷ []
 known_members (known.Call kind ordinal) = (codes "collective", json.string (name_text kind)) ∷ ordinal_members ordinal
 
--- a message that was never received
-abbrev pub left_object : Leftover → Data
-left_object x = object_of ((codes "rank", count x.rank) ∷ (codes "source", count x.source) ∷ known_members x.mark)
+-- a message that was never received, with the line at which it was sent, if that is known
+abbrev pub left_object : LinedLeftover → Data
+left_object x = object_of (place_members x.message.rank x.line ++ (codes "source", count x.message.source) ∷ known_members x.message.mark)
 
 -- those of a run
-abbrev pub left_array : List Leftover → Data
+abbrev pub left_array : List LinedLeftover → Data
 left_array messages = array_of (map left_object messages)
 
 -- what is listed is one run, in which nothing was left
-abbrev pub says_none : List (List Leftover) → Bool
+abbrev pub says_none : List (List LinedLeftover) → Bool
 says_none [] = true
 says_none (messages ∷ []) = length messages == 0
 says_none (messages ∷ others ∷ more) = false
 
 -- what was never received in runs that have an outcome, if something was
-abbrev pub left_members : List (List Leftover) → List (List ℕ × Data)
+abbrev pub left_members : List (List LinedLeftover) → List (List ℕ × Data)
 left_members listed = if says_none listed then [] else ((codes "unreceived", array_of (map left_array listed)) ∷ [])
 
 -- the outcome of this number: what is seen of its ranks, the choices that are noted with it, its mark,
 -- and what was never received in runs that have it
-abbrev pub outcome_object : List ℕ → ℕ → List RankOutcome → List Noted → Option Bool → List (List Leftover) → Data
+abbrev pub outcome_object : List ℕ → ℕ → List RankOutcome → List Noted → Option Bool → List (List LinedLeftover) → Data
 outcome_object lines number outcome choices mark listed =
     object_of ((codes "outcome", count number) ∷ (codes "ranks", array_of (rank_objects 0 outcome))
     ∷ (codes "choices", array_of (map (choice_object lines) choices)) ∷ (codes "misses_shown", mark_value mark)
@@ -135,24 +135,29 @@ behind_first (x ∷ xs) = xs
 abbrev pub mark_at : List (Option Bool) → ℕ → Option Bool
 mark_at marks index = option_flatten (slice_get marks index)
 
--- the outcomes from this index on, with their choices and their leftovers; numbers are from 1, an
--- index from 0
-abbrev pub outcome_objects : List ℕ → List (Option Bool) → ℕ → List (List RankOutcome) → List (List Noted) → List (List (List Leftover)) → List Data
-outcome_objects lines marks index [] choices left = []
-outcome_objects lines marks index (outcome ∷ outcomes) choices left =
-    outcome_object lines (index + 1) outcome (first_of choices) (mark_at marks index) (first_of left)
-    ∷ outcome_objects lines marks (index + 1) outcomes (behind_first choices) (behind_first left)
+-- the outcomes from this index on, with their choices and with what was never received; numbers are
+-- from 1, an index from 0
+abbrev pub outcome_objects : List ℕ → List (List (List LinedLeftover)) → List (Option Bool) → ℕ → List (List RankOutcome) → List (List Noted)
+    → List Data
+outcome_objects lines left marks index [] choices = []
+outcome_objects lines left marks index (outcome ∷ outcomes) choices =
+    outcome_object lines (index + 1) outcome (first_of choices) (mark_at marks index) (slice_index_or left index [])
+    ∷ outcome_objects lines left marks (index + 1) outcomes (behind_first choices)
+
+-- that the outcomes of all runs that end were found, while the ranks may go on for ever
+abbrev pub closed_members : Bool → List (List ℕ × Data)
+closed_members closed = if closed then ((codes "closed", json.boolean true) ∷ []) else []
 
 -- how the search ended, and how many runs it looked at and states it kept
 abbrev pub count_members : ExploredValue → List (List ℕ × Data)
 count_members found =
     (codes "complete", json.boolean found.complete) ∷ (codes "out_of_steps", json.boolean found.out_of_steps)
-    ∷ (codes "runs", count found.runs) ∷ (codes "states", count found.states) ∷ (codes "all_states_kept", json.boolean found.kept_all) ∷ []
+    ∷ (codes "runs", count found.runs) ∷ (codes "states", count found.states) ∷ (codes "all_states_kept", json.boolean found.kept_all) ∷ closed_members found.closed
 
--- the members on what a search found, with these marks and these races
-abbrev pub found_members : ExploredValue → List (Option Bool) → List ℕ → Items → Members
-found_members found marks lines races =
-    with_members ((codes "outcomes", array_of (outcome_objects lines marks 0 found.outcomes found.choices found.left))
+-- the members on what a search found, with what was never received, these marks and these races
+abbrev pub found_members : ExploredValue → List (List (List LinedLeftover)) → List (Option Bool) → List ℕ → Items → Members
+found_members found left marks lines races =
+    with_members ((codes "outcomes", array_of (outcome_objects lines left marks 0 found.outcomes found.choices))
     ∷ (codes "races", json.array races) ∷ count_members found) json.no_members
 
 -- whether it is safe, if it is known
@@ -177,13 +182,16 @@ waits_objects (safety.Unknown why) = []
 abbrev pub safety_members : Safety → List (List ℕ × Data)
 safety_members told = (codes "safe", mark_value (is_safe_if_known told)) ∷ (codes "waits", array_of (waits_objects told)) ∷ []
 
--- all that a search found, with these marks and these races, and whether the program is safe
-abbrev pub search_object : ExploredValue → List (Option Bool) → List ℕ → Items → Safety → Data
-search_object found marks lines races told = json.object (with_members (safety_members told) (found_members found marks lines races))
+-- all that a search found, with what was never received, these marks and these races, and whether the
+-- program is safe
+abbrev pub search_object : ExploredValue → List (List (List LinedLeftover)) → List (Option Bool) → List ℕ → Items → Safety → Data
+search_object found left marks lines races told =
+    json.object (with_members (safety_members told) (found_members found left marks lines races))
 
 -- The text is this object on a line of its own. Of the races it only says that they are an array in
 -- which no number has a fraction or an exponent.
-pub record IsSearchObject (found : ExploredValue) (marks : List (Option Bool)) (lines : List ℕ) (told : Safety) (text : List ℕ) : Type 0 where
+pub record IsSearchObject (found : ExploredValue) (left : List (List (List LinedLeftover))) (marks : List (Option Bool)) (lines : List ℕ)
+    (told : Safety) (text : List ℕ) : Type 0 where
   pub races : Items
   pub no_fractions : items_have_float races ≡ false
-  pub whole : text ≡ compact_text (search_object found marks lines races told) ++ codes "\n"
+  pub whole : text ≡ compact_text (search_object found left marks lines races told) ++ codes "\n"

@@ -4,6 +4,7 @@ use Rattle.std.specs.Prelude.{◌≡◌, ◌≤◌, ◌↔◌, ◌⊎◌, ℕ, B
 use Rattle.command_line.specs.declared.exploring.ExploreForm.TheVariants as form
 use Rattle.command_line.specs.declared.exploring.ExploreJob.{ExploreJob}
 use Rattle.explore.specs.Counting.{GoesBeyond}
+use Rattle.explore.specs.Cycles.{MayGoOnForEver}
 use Rattle.explore.specs.Endings.{AreLeftovers}
 use Rattle.explore.specs.Explored.{ExploredValue}
 use Rattle.explore.specs.Outcomes.{AreAll, AreDistinct, IsAmong}
@@ -34,18 +35,22 @@ use Rattle.synchronous.specs.declared.telling.Telling.TheVariants as telling
 -- in some run that has it; if the search is complete, in no such run something else was left. If the search is complete, it has no
 -- other, however its ranks go on they come to an end that was found, and crashes add none to those
 -- of runs; so where there is one outcome, it is all that a run prints. The search of a small
--- program is complete. One that isn't looked at as many runs as the job allows, or a rank came to
--- the limit of steps, and then some rank goes beyond it. No outcome stands there twice, and no more
+-- program is complete. If it is closed, the program has no other outcome either, but has runs of any
+-- length. One that is neither looked at as many runs as the job allows, or a rank came to the limit of
+-- steps, and then some rank goes beyond it. No outcome stands there twice, and no more
 -- runs were looked at than the job allows.
 pub record IsFoundBy (program : ProgramValue) (job : ExploreJob) (found : ExploredValue) : Type 0 where
   pub possible : (outcome : List RankOutcome) → IsAmong found.outcomes outcome → IsPossible program job.ranks outcome
   pub complete : found.complete ≡ true → AreAll program job.ranks found.outcomes
+  pub closed : found.closed ≡ true → AreAll program job.ranks found.outcomes
   pub left : AreLeftovers program job.ranks found.complete found.outcomes found.left
+  pub all_left : found.closed ≡ true → AreLeftovers program job.ranks true found.outcomes found.left
+  pub endless : found.closed ≡ true → MayGoOnForEver program job.ranks
   pub ends : found.complete ≡ true → EndsAmong program job.ranks found.outcomes
   pub masks : found.complete ≡ true → AreMasked program job.ranks found.outcomes
   pub only : found.complete ≡ true → (outcome : List RankOutcome) → found.outcomes ≡ outcome ∷ [] → PrintsOnly program job.ranks outcome
   pub small : IsSmall program job.ranks job.runs job.steps → found.complete ≡ true
-  pub stopped : found.complete ≡ false → (found.runs ≡ job.runs) ⊎ IsTrue found.out_of_steps
+  pub stopped : found.complete ≡ false → found.closed ≡ false → (found.runs ≡ job.runs) ⊎ IsTrue found.out_of_steps
   pub beyond : found.out_of_steps ≡ true → GoesBeyond program job.ranks job.steps
   pub distinct : AreDistinct found.outcomes
   pub few_runs : found.runs ≤ job.runs
@@ -99,7 +104,7 @@ pub record IsDeterminismText (text : List ℕ) (job : ExploreJob) (found : Explo
 -- lines. Of JSON nothing is said of the races.
 pub record IsPrinted (lines : List ℕ) (program : ProgramValue) (job : ExploreJob) (found : ExploredValue) (told : Safety) (out : List ℕ) : Type 0 where
   pub text : job.form ≡ form.Text → IsMarkedText job.synchronous lines program job.ranks found told job.runs out
-  pub summary : job.form ≡ form.Summary → IsMarkedSummary job.synchronous program job.ranks found told job.runs out
+  pub summary : job.form ≡ form.Summary → IsMarkedSummary job.synchronous lines program job.ranks found told job.runs out
   pub json : job.form ≡ form.Json → IsMarkedObject lines program job.ranks found told out
   pub events : (number : ℕ) → job.form ≡ form.Events number → PlaysOutcome program job.ranks found.outcomes number out
 

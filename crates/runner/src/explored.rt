@@ -1,6 +1,5 @@
 //! What the program prints of all outcomes of a program.
 ghost use Rattle.std.specs.Prelude.{◌≡◌, ◌<◌, ◌+◌, ◌++◌, ◌↔◌, ℕ, List, IfOk, IsTrue, OnOk, Some, [], codes, length, slice_get, string_bytes};
-ghost use Rattle.runner.specs.LeftText.{listed_text};
 ghost use Rattle.explore.specs.Explored.{rank_outcomes};
 ghost use Rattle.runner.specs.Partings.{AreOfLast, ArePartings};
 ghost use Rattle.run_events.specs.Halting.{AllHalt, Halts};
@@ -9,6 +8,7 @@ ghost use Rattle.runner.specs.OutcomesText.{endings_text, lines_text, one_text, 
 
 mod json;
 mod leftover;
+mod lined;
 mod meaning;
 mod parting;
 mod racing;
@@ -17,6 +17,8 @@ mod safety;
 pub use crate::explored::json::explored_json;
 pub use crate::explored::leftover::print_left;
 use crate::explored::leftover::print_listed;
+use crate::explored::lined::left_at;
+pub use crate::explored::lined::{LinedLeftover, LinedLeftovers, LinedOutcome};
 use crate::explored::meaning::print_meaning;
 use crate::explored::parting::{Parted, part, print_choices};
 pub use crate::explored::racing::print_summary;
@@ -28,23 +30,26 @@ use limits::Heap;
 use std::alloc::AllocError;
 use std::fmt::Write;
 
-/// Each outcome with the choices that lead there, and what all of it means, with
-/// the marks that `marks_of` of `explore` gives, and the lines of the text at which a state came back. The statement at position K of the program stands on line `lines[K]` of its text.
-/// An `Err` means out of memory.
+/// Each outcome with the choices that lead there, what is listed of it as never
+/// received, and what all of it means, with the marks that `marks_of` of `explore`
+/// gives, and the lines of the text at which a state came back. The statement at
+/// position K of the program stands on line `lines[K]` of its text. An `Err` means
+/// out of memory.
 #[tactic(auto, using(crate::proofs::Written::is_explored_text))]
 pub fn print_explored(
     alloc: Heap,
     found: &Explored,
+    left: &[LinedOutcome],
     marks: &[Option<bool>],
     cycle: &[usize],
     limits: Limits,
     lines: &[usize],
     synchronous: bool,
 ) -> Result<String<Heap>, AllocError>
-    ensures { IfOk result (λ text. IsExploredText synchronous found.now marks.now cycle.now limits.runs lines.now (string_bytes text)) }
+    ensures { IfOk result (λ text. IsExploredText synchronous found.now left.now marks.now cycle.now limits.runs lines.now (string_bytes text)) }
 {
     let mut text = String::new(alloc);
-    print_outcomes(alloc, &mut text, found, lines)?;
+    print_outcomes(alloc, &mut text, found, left, lines)?;
     print_safe(&mut text, found, synchronous)?;
     print_meaning(&mut text, found, marks, cycle, limits.runs)?;
     Ok(text)
@@ -91,16 +96,18 @@ fn print_outcomes(
     alloc: Heap,
     text: &mut String<Heap>,
     found: &Explored,
+    left: &[LinedOutcome],
     lines: &[usize],
 ) -> Result<(), AllocError>
     requires { string_bytes text.old ≡ [] }
-    ensures { OnOk result (AreWritten found.now.outcomes found.now.choices found.now.left lines.now (length found.now.outcomes) (string_bytes text.new)) }
+    ensures { OnOk result (AreWritten found.now.outcomes found.now.choices left.now lines.now (length found.now.outcomes) (string_bytes text.new)) }
 {
     let mut parted = Vec::new(alloc);
     for index in 0..found.outcomes.len() {
         part_at(found, index, &mut parted)?;
         let outcome = outcome_at(found, index);
-        print_one(text, index + 1, outcome, parted.as_slice(), lines)?;
+        let listed = left_at(left, index);
+        print_one(text, index + 1, outcome, parted.as_slice(), listed, lines)?;
     }
     Ok(())
 }
@@ -136,20 +143,15 @@ fn print_one(
     number: usize,
     outcome: &FoundOutcome,
     parted: &[Parted],
+    listed: &[LinedLeftovers],
     lines: &[usize],
 ) -> Result<(), AllocError>
-    ensures { OnOk result (string_bytes text.new ≡ string_bytes text.old ++ one_text number outcome.now.ranks lines.now parted.now outcome.now.left) }
+    ensures { OnOk result (string_bytes text.new ≡ string_bytes text.old ++ one_text number outcome.now.ranks lines.now parted.now listed.now) }
 {
     print_outcome(text, number, outcome.ranks.as_slice())?;
     print_choices(text, parted, lines)?;
-    print_left_of(text, outcome)?;
+    print_listed(text, "# ", listed)?;
     writeln!(text)
-}
-
-fn print_left_of(text: &mut String<Heap>, outcome: &FoundOutcome) -> Result<(), AllocError>
-    ensures { OnOk result (string_bytes text.new ≡ string_bytes text.old ++ listed_text (codes "# ") outcome.now.left) }
-{
-    print_listed(text, "# ", outcome.left.as_slice())
 }
 
 /// The outcome of this number: what each rank printed, and how it ended.

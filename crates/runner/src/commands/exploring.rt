@@ -7,6 +7,7 @@ ghost use Rattle.runner.specs.Reasons.{HasNoOutcome, HasNoOutcomeOf, IsSearchRef
 ghost use Rattle.runner.specs.Searches.{HasSearchStatus, IsExploreAnswer, IsFoundBy, IsPrinted, IsSearchAnswer, IsSearchedOf};
 
 use crate::commands::determinism::print_determinism;
+use crate::commands::lining::lined_of;
 use crate::commands::reading::text_in;
 use crate::commands::refusal::Refusal;
 use crate::commands::safety::safety_of;
@@ -16,7 +17,9 @@ use crate::explored::{
 };
 use crate::files::Files;
 use command_line::{ExploreForm, ExploreJob};
-use explore::{Explored, FoundOutcome, Limits, Watch, came_back, explore, marks_of, run_of};
+use explore::{
+    Explored, FoundOutcome, Limits, Watch, came_back, explore, explore_ends, marks_of, run_of,
+};
 use limits::Heap;
 use rank_language::{LinedProgram, ParseFault, Program};
 use run_events::laws::law_masks_reports;
@@ -98,8 +101,9 @@ fn found_of<'a, W: Watch>(
     Ok(Said::answer(alloc, status_of(&found), answer.into_bytes()))
 }
 
-/// What a search of the program finds, within the limits of the job.
-#[tactic(auto, using(crate::proofs::Searches::is_found_by))]
+/// What a search of the program finds, within the limits of the job. If it isn't
+/// complete, another closes over states, if one comes back.
+#[tactic(auto, using(crate::proofs::Searches::is_found_by, crate::proofs::Searches::ends_found_by))]
 pub fn search<W: Watch>(
     alloc: Heap,
     job: ExploreJob<'_>,
@@ -109,7 +113,14 @@ pub fn search<W: Watch>(
     ensures { IfOk result (λ found. IsFoundBy program.now job.entry found) }
 {
     law_masks_reports();
-    explore(alloc, program, job.ranks, limits_of(job), watch)
+    let found = explore(alloc, program, job.ranks, limits_of(job), watch)?;
+    if found.complete {
+        return Ok(found);
+    }
+    match explore_ends(alloc, program, job.ranks, limits_of(job), watch)? {
+        Some(closed) => Ok(closed),
+        None => Ok(found),
+    }
 }
 
 fn status_of(found: &Explored) -> u8
@@ -157,9 +168,11 @@ fn found_text(
 {
     let marks = marks_in(alloc, job, program, found)?;
     let cycle = cycle_in(alloc, job, program, found, lines)?;
+    let left = lined_of(alloc, job, program, lines, found)?;
     let mut text = print_explored(
         alloc,
         found,
+        left.as_slice(),
         marks.as_slice(),
         cycle.as_slice(),
         limits_of(job),
@@ -179,13 +192,15 @@ fn summary_text(
     found: &Explored,
     safety: &Safety,
 ) -> Result<String<Heap>, AllocError>
-    ensures { IfOk result (λ answer. IsMarkedSummary job.entry.synchronous program.now job.entry.ranks found.now safety.now job.entry.runs (string_bytes answer)) }
+    ensures { IfOk result (λ answer. IsMarkedSummary job.entry.synchronous lines.now program.now job.entry.ranks found.now safety.now job.entry.runs (string_bytes answer)) }
 {
     let marks = marks_in(alloc, job, program, found)?;
     let cycle = cycle_in(alloc, job, program, found, lines)?;
+    let left = lined_of(alloc, job, program, lines, found)?;
     let mut text = print_summary(
         alloc,
         found,
+        left.as_slice(),
         marks.as_slice(),
         cycle.as_slice(),
         limits_of(job),
@@ -207,7 +222,15 @@ fn json_text(
     ensures { IfOk result (λ answer. IsMarkedObject lines.now program.now job.entry.ranks found.now safety.now (string_bytes answer)) }
 {
     let marks = marks_in(alloc, job, program, found)?;
-    explored_json(alloc, found, marks.as_slice(), lines, safety)
+    let left = lined_of(alloc, job, program, lines, found)?;
+    explored_json(
+        alloc,
+        found,
+        left.as_slice(),
+        marks.as_slice(),
+        lines,
+        safety,
+    )
 }
 
 // The lines at which ranks went on until a state came back, if all wasn't searched and one did.

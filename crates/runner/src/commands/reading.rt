@@ -1,12 +1,12 @@
 //! Files that the program's words name, read and parsed.
 ghost use Rattle.std.specs.Prelude.{ℕ, List, IfErr, IfOk};
-ghost use Rattle.runner.specs.Reading.{AreEventsIn, IsProgramIn, IsScriptBy, IsScriptIn};
+ghost use Rattle.runner.specs.Reading.{AreEventsIn, IsLinedIn, IsProgramIn, IsScriptBy, IsScriptIn};
 ghost use Rattle.runner.specs.Reasons.{IsEventsRefusal, IsFileRefusal, IsProgramRefusal, HasScriptFault, IsScriptRefusal, IsUnread, UnlessMemory};
 
 use crate::commands::refusal::Refusal;
 use crate::files::Files;
 use limits::Heap;
-use rank_language::Program;
+use rank_language::{LinedProgram, Program};
 use rank_text::script::Script;
 use world_model::WorldEvent;
 use world_model::events_text::parse_events;
@@ -43,6 +43,23 @@ pub fn program_in<'a, F: Files>(
 {
     match files.read(name) {
         Ok(text) => Ok(Program::parse(alloc, text.as_slice())?),
+        Err(fault) => Err(Refusal::of_file(name, fault)),
+    }
+}
+
+/// The same, with the lines on which the program's statements stand.
+#[tactic(auto, using(crate::proofs::Reading::is_lined_in, crate::proofs::Reasons::unread, crate::proofs::Reasons::faulty_program))]
+pub fn lined_in<'a, F: Files>(
+    alloc: Heap,
+    name: &'a str,
+    files: &mut F,
+) -> Result<LinedProgram, Refusal<'a>>
+    ensures lined { IfOk result (λ lined. IsLinedIn (F.holds files.old name.entry.now) lined.program lined.lines.items) }
+    ensures refused { IfErr result (UnlessMemory (IsProgramRefusal (F.holds files.old) name.entry)) }
+    ensures kept { (file text : List ℕ) → F.holds files.new file text → F.holds files.old file text }
+{
+    match files.read(name) {
+        Ok(text) => Ok(LinedProgram::parse(alloc, text.as_slice())?),
         Err(fault) => Err(Refusal::of_file(name, fault)),
     }
 }

@@ -6,7 +6,7 @@ ghost use Rattle.runner.specs.Reasons.{IsRunRefusal, UnlessMemory};
 ghost use Rattle.runner.specs.Reports.{IsReportOf, IsReportUnder};
 ghost use Rattle.runner.specs.Unreceived.{IsRunTold, TellsLeft};
 
-use crate::commands::reading::{program_in, script_by};
+use crate::commands::reading::{lined_in, script_by};
 use crate::commands::refusal::Refusal;
 use crate::commands::said::Said;
 use crate::commands::scheduling::{certified_by, schedule_of};
@@ -59,7 +59,7 @@ struct Reported {
 }
 
 // The program is read and parsed before the script is read.
-#[tactic(auto, using(crate::proofs::Answers::is_report_of, crate::proofs::Reasons::of_memory, crate::proofs::Reasons::run_of_program, crate::proofs::Reasons::run_of_script, crate::proofs::Reasons::run_of_fault, crate::proofs::Unreceived::tells_left))]
+#[tactic(auto, using(crate::proofs::Answers::is_report_of, crate::proofs::Reasons::of_memory, crate::proofs::Reasons::run_of_program, crate::proofs::Reasons::run_of_script, crate::proofs::Reasons::run_of_fault, crate::proofs::Unreceived::as_many_machines, crate::proofs::Unreceived::tells_left))]
 fn report_of<'a, R: Threads + Wait + Sync + Copy + Send, F: Files>(
     rt: &R,
     alloc: Heap,
@@ -70,17 +70,17 @@ fn report_of<'a, R: Threads + Wait + Sync + Copy + Send, F: Files>(
     ensures left { IfOk result (λ made. TellsLeft (F.holds files.old) job.entry made.report (string_bytes made.left)) }
     ensures refused { IfErr result (UnlessMemory (IsRunRefusal (F.holds files.old) job.entry)) }
 {
-    let program = program_in(alloc, job.program, files)?;
+    let lined = lined_in(alloc, job.program, files)?;
     let asked = script_by(alloc, job.script, job.ranks, files)?;
-    let script = &asked.script;
+    let (program, script) = (&lined.program, &asked.script);
     let (limits, schedule) = (limits_of(job), schedule_of(job.scheduling));
-    let made = certified_by(rt, alloc, &program, job.ranks, script, limits, schedule);
+    let made = certified_by(rt, alloc, program, job.ranks, script, limits, schedule);
     drop(asked);
     let certified = match made {
         Ok(certified) => certified,
         Err(fault) => return Err(Refusal::from(fault)),
     };
-    let left = left_text(alloc, &certified.run);
+    let left = left_text(alloc, &lined, job.ranks, &certified.run);
     let Certified { report, run } = certified;
     drop(run);
     match left {

@@ -1,19 +1,20 @@
 //! What a search found, as JSON.
 ghost use Rattle.std.specs.Prelude.{◌≡◌, IfOk, OnOk, false, map, string_bytes};
-ghost use Rattle.explore.specs.Explored.{listed_left, noted_choices, rank_outcomes};
+ghost use Rattle.explore.specs.Explored.{noted_choices, rank_outcomes};
 ghost use Rattle.serde_json.specs.Data.{put as with_member, string};
 ghost use Rattle.serde_json.specs.View.{items_view, members_view, view};
 ghost use Rattle.serde_json.specs.Written.{has_float, items_have_float};
-ghost use Rattle.runner.specs.SearchObject.{IsSearchObject, choice_members, choice_object, count_members, end_members};
+ghost use Rattle.runner.specs.SearchObject.{IsSearchObject, choice_members, choice_object, closed_members, count_members, end_members};
 ghost use Rattle.runner.specs.SearchObject.{mark_at, mark_value, outcome_object, outcome_objects, place_members};
 ghost use Rattle.runner.specs.SearchObject.{known_members, left_array, left_members, left_object, ordinal_members, says_none};
 ghost use Rattle.runner.specs.SearchObject.{rank_object, rank_objects, value, with_members};
 ghost use Rattle.runner.specs.SearchObject.{is_safe_if_known, safety_members, wait_object, waits_objects};
 
+use crate::explored::lined::{LinedLeftover, LinedLeftovers, LinedOutcome, left_at};
 use crate::explored::safety::{Safety, Wait};
 use audit::End;
-use crash_free::{Choice, Leftover, Mark};
-use explore::{Explored, FoundOutcome, Leftovers, Noted, Race, RankEnd};
+use crash_free::{Choice, Mark};
+use explore::{Explored, FoundOutcome, Noted, Race, RankEnd};
 use limits::Heap;
 use run_shown::trace::kind_name;
 use serde_json::{Map, Value, put};
@@ -26,14 +27,15 @@ use std::alloc::AllocError;
 pub fn explored_json(
     alloc: Heap,
     found: &Explored,
+    left: &[LinedOutcome],
     marks: &[Option<bool>],
     lines: &[usize],
     safety: &Safety,
 ) -> Result<String<Heap>, AllocError>
-    ensures { IfOk result (λ text. IsSearchObject found.now marks.now lines.now safety.now (string_bytes text)) }
+    ensures { IfOk result (λ text. IsSearchObject found.now left.now marks.now lines.now safety.now (string_bytes text)) }
 {
     let mut all = Map::new(alloc);
-    let outcomes = outcomes_of(alloc, found.outcomes.as_slice(), marks, lines)?;
+    let outcomes = outcomes_of(alloc, found.outcomes.as_slice(), left, marks, lines)?;
     put(&mut all, alloc, "outcomes", Value::from(outcomes))?;
     let races = races_of(alloc, found.races.as_slice(), lines)?;
     put(&mut all, alloc, "races", Value::from(races))?;
@@ -56,7 +58,22 @@ fn put_counts(
     put(to, alloc, "out_of_steps", Value::from(found.out_of_steps))?;
     put(to, alloc, "runs", Value::from(u64::from(found.runs)))?;
     put(to, alloc, "states", Value::from(u64::from(found.states)))?;
-    put(to, alloc, "all_states_kept", Value::from(found.kept_all))
+    put(to, alloc, "all_states_kept", Value::from(found.kept_all))?;
+    put_closed(alloc, to, found.closed)
+}
+
+// That the outcomes of all runs that end were found, while the ranks may go on for ever.
+fn put_closed(
+    alloc: Heap,
+    to: &mut Map<String<Heap>, Value>,
+    closed: bool,
+) -> Result<(), AllocError>
+    ensures { OnOk result (members_view to.new.entries ≡ with_members (closed_members closed) (members_view to.old.entries)) }
+{
+    if !closed {
+        return Ok(());
+    }
+    put(to, alloc, "closed", Value::from(true))
 }
 
 // Whether the program is safe, and who waits if it isn't.
@@ -113,18 +130,20 @@ fn wait_value(alloc: Heap, wait: Wait) -> Result<Value, AllocError>
 fn outcomes_of(
     alloc: Heap,
     outcomes: &[FoundOutcome],
+    left: &[LinedOutcome],
     marks: &[Option<bool>],
     lines: &[usize],
 ) -> Result<Vec<Value, Heap>, AllocError>
-    ensures { IfOk result (λ list. map view list.items ≡ outcome_objects lines.now marks.now 0 (rank_outcomes outcomes.now) (noted_choices outcomes.now) (listed_left outcomes.now)) }
+    ensures { IfOk result (λ list. map view list.items ≡ outcome_objects lines.now left.now marks.now 0 (rank_outcomes outcomes.now) (noted_choices outcomes.now)) }
 {
     let mut list = Vec::new(alloc);
     let mut index = 0usize;
     let mut rest = outcomes;
     while let [outcome, more @ ..] = rest {
         let mark = mark_of(marks, index);
+        let listed = left_at(left, index);
         index += 1;
-        list.push(outcome_value(alloc, index, outcome, mark, lines)?)?;
+        list.push(outcome_value(alloc, index, outcome, mark, listed, lines)?)?;
         rest = more;
     }
     Ok(list)
@@ -143,9 +162,10 @@ fn outcome_value(
     number: usize,
     outcome: &FoundOutcome,
     mark: Option<bool>,
+    listed: &[LinedLeftovers],
     lines: &[usize],
 ) -> Result<Value, AllocError>
-    ensures { IfOk result (λ v. view v ≡ outcome_object lines.now number outcome.now.ranks outcome.now.choices mark outcome.now.left) }
+    ensures { IfOk result (λ v. view v ≡ outcome_object lines.now number outcome.now.ranks outcome.now.choices mark listed.now) }
 {
     let mut one = Map::new(alloc);
     put(&mut one, alloc, "outcome", Value::from(number as u64))?;
@@ -154,7 +174,7 @@ fn outcome_value(
     let choices = choices_of(alloc, outcome.choices.as_slice(), lines)?;
     put(&mut one, alloc, "choices", Value::from(choices))?;
     put(&mut one, alloc, "misses_shown", shown(mark))?;
-    put_left(alloc, &mut one, outcome.left.as_slice())?;
+    put_left(alloc, &mut one, listed)?;
     Ok(Value::from(one))
 }
 
@@ -171,7 +191,7 @@ fn shown(mark: Option<bool>) -> Value
 fn put_left(
     alloc: Heap,
     to: &mut Map<String<Heap>, Value>,
-    listed: &[Leftovers],
+    listed: &[LinedLeftovers],
 ) -> Result<(), AllocError>
     ensures { OnOk result (members_view to.new.entries ≡ with_members (left_members listed.now) (members_view to.old.entries)) }
 {
@@ -182,7 +202,7 @@ fn put_left(
     put(to, alloc, "unreceived", Value::from(left))
 }
 
-fn says_none(listed: &[Leftovers]) -> bool
+fn says_none(listed: &[LinedLeftovers]) -> bool
     ensures { result ≡ says_none listed.now }
 {
     match listed {
@@ -193,7 +213,7 @@ fn says_none(listed: &[Leftovers]) -> bool
 }
 
 // The same, a list for each run.
-fn listed_of(alloc: Heap, listed: &[Leftovers]) -> Result<Vec<Value, Heap>, AllocError>
+fn listed_of(alloc: Heap, listed: &[LinedLeftovers]) -> Result<Vec<Value, Heap>, AllocError>
     ensures { IfOk result (λ list. map view list.items ≡ map left_array listed.now) }
 {
     let mut list = Vec::new(alloc);
@@ -203,14 +223,14 @@ fn listed_of(alloc: Heap, listed: &[Leftovers]) -> Result<Vec<Value, Heap>, Allo
     Ok(list)
 }
 
-fn messages_value(alloc: Heap, some: &Leftovers) -> Result<Value, AllocError>
+fn messages_value(alloc: Heap, some: &LinedLeftovers) -> Result<Value, AllocError>
     ensures { IfOk result (λ v. view v ≡ left_array some.now) }
 {
     let messages = messages_of(alloc, some.messages.as_slice())?;
     Ok(Value::from(messages))
 }
 
-fn messages_of(alloc: Heap, messages: &[Leftover]) -> Result<Vec<Value, Heap>, AllocError>
+fn messages_of(alloc: Heap, messages: &[LinedLeftover]) -> Result<Vec<Value, Heap>, AllocError>
     ensures { IfOk result (λ list. map view list.items ≡ map left_object messages.now) }
 {
     let mut list = Vec::new(alloc);
@@ -220,24 +240,16 @@ fn messages_of(alloc: Heap, messages: &[Leftover]) -> Result<Vec<Value, Heap>, A
     Ok(list)
 }
 
-fn message_value(alloc: Heap, message: Leftover) -> Result<Value, AllocError>
-    ensures { IfOk result (λ v. view v ≡ left_object message) }
+fn message_value(alloc: Heap, one: LinedLeftover) -> Result<Value, AllocError>
+    ensures { IfOk result (λ v. view v ≡ left_object one) }
 {
-    let mut one = Map::new(alloc);
-    put(
-        &mut one,
-        alloc,
-        "rank",
-        Value::from(u64::from(message.rank)),
-    )?;
-    put(
-        &mut one,
-        alloc,
-        "source",
-        Value::from(u64::from(message.source)),
-    )?;
-    put_known(alloc, &mut one, message.mark)?;
-    Ok(Value::from(one))
+    let message = one.message;
+    let mut object = Map::new(alloc);
+    put_place(alloc, &mut object, message.rank, one.line)?;
+    let source = Value::from(u64::from(message.source));
+    put(&mut object, alloc, "source", source)?;
+    put_known(alloc, &mut object, message.mark)?;
+    Ok(Value::from(object))
 }
 
 // By what to know a message.

@@ -2,11 +2,10 @@
 ghost use Rattle.std.specs.Prelude.{◌≡◌, ◌++◌, OnOk, string_bytes};
 ghost use Rattle.run_shown.specs.Trace.Words.{ordinal_text};
 ghost use Rattle.runner.specs.LeftText.{are_alike, begin_alike, each_text, left_line, left_text, listed_text, short_text, shorts_text};
-ghost use Rattle.explore.specs.Explored.{listed_left};
-ghost use Rattle.runner.specs.LeftText.{mark_words, number_words, same_mark, some_text};
+ghost use Rattle.runner.specs.LeftText.{known_words, line_words, mark_words, number_words, same_mark, some_text};
 
-use crash_free::{Leftover, Mark};
-use explore::{FoundOutcome, Leftovers};
+use crate::explored::lined::{LinedLeftover, LinedLeftovers, LinedOutcome};
+use crash_free::Mark;
 use limits::Heap;
 use run_shown::trace::kind_name;
 use std::alloc::AllocError;
@@ -17,7 +16,7 @@ use std::fmt::Write;
 pub fn print_listed(
     text: &mut String<Heap>,
     before: &str,
-    listed: &[Leftovers],
+    listed: &[LinedLeftovers],
 ) -> Result<(), AllocError>
     ensures { OnOk result (string_bytes text.new ≡ string_bytes text.old ++ listed_text before.now listed.now) }
 {
@@ -28,7 +27,11 @@ pub fn print_listed(
     }
 }
 
-fn print_each(text: &mut String<Heap>, before: &str, listed: &[Leftovers]) -> Result<(), AllocError>
+fn print_each(
+    text: &mut String<Heap>,
+    before: &str,
+    listed: &[LinedLeftovers],
+) -> Result<(), AllocError>
     ensures { OnOk result (string_bytes text.new ≡ string_bytes text.old ++ each_text before.now listed.now) }
 {
     let mut rest = listed;
@@ -42,7 +45,7 @@ fn print_each(text: &mut String<Heap>, before: &str, listed: &[Leftovers]) -> Re
 fn print_some(
     text: &mut String<Heap>,
     before: &str,
-    messages: &[Leftover],
+    messages: &[LinedLeftover],
 ) -> Result<(), AllocError>
     ensures { OnOk result (string_bytes text.new ≡ string_bytes text.old ++ some_text before.now messages.now) }
 {
@@ -54,8 +57,8 @@ fn print_some(
 }
 
 /// What is listed of each outcome, in short, with the number of the outcome.
-pub fn print_shorts(text: &mut String<Heap>, outcomes: &[FoundOutcome]) -> Result<(), AllocError>
-    ensures { OnOk result (string_bytes text.new ≡ string_bytes text.old ++ shorts_text 1 (listed_left outcomes.now)) }
+pub fn print_shorts(text: &mut String<Heap>, outcomes: &[LinedOutcome]) -> Result<(), AllocError>
+    ensures { OnOk result (string_bytes text.new ≡ string_bytes text.old ++ shorts_text 1 outcomes.now) }
 {
     let mut number = 0usize;
     let mut rest = outcomes;
@@ -70,7 +73,7 @@ pub fn print_shorts(text: &mut String<Heap>, outcomes: &[FoundOutcome]) -> Resul
 fn print_short(
     text: &mut String<Heap>,
     number: usize,
-    listed: &[Leftovers],
+    listed: &[LinedLeftovers],
 ) -> Result<(), AllocError>
     ensures { OnOk result (string_bytes text.new ≡ string_bytes text.old ++ short_text number listed.now) }
 {
@@ -84,7 +87,7 @@ fn print_short(
 pub fn print_left(
     text: &mut String<Heap>,
     before: &str,
-    messages: &[Leftover],
+    messages: &[LinedLeftover],
 ) -> Result<(), AllocError>
     ensures { OnOk result (string_bytes text.new ≡ string_bytes text.old ++ left_text before.now messages.now) }
 {
@@ -101,7 +104,7 @@ pub fn print_left(
     Ok(())
 }
 
-fn begin_alike(one: Leftover, messages: &[Leftover]) -> bool
+fn begin_alike(one: LinedLeftover, messages: &[LinedLeftover]) -> bool
     ensures { result ≡ begin_alike one messages.now }
 {
     match messages.first() {
@@ -110,10 +113,14 @@ fn begin_alike(one: Leftover, messages: &[Leftover]) -> bool
     }
 }
 
-fn are_alike(one: Leftover, other: Leftover) -> bool
+fn are_alike(one: LinedLeftover, other: LinedLeftover) -> bool
     ensures { result ≡ are_alike one other }
 {
-    one.rank == other.rank && one.source == other.source && is_same_mark(one.mark, other.mark)
+    let (message, like) = (one.message, other.message);
+    message.rank == like.rank
+        && message.source == like.source
+        && is_same_mark(message.mark, like.mark)
+        && one.line == other.line
 }
 
 fn is_same_mark(mark: Mark, other: Mark) -> bool
@@ -137,18 +144,34 @@ fn is_same_mark(mark: Mark, other: Mark) -> bool
 fn print_line_of(
     text: &mut String<Heap>,
     before: &str,
-    one: Leftover,
+    one: LinedLeftover,
     count: usize,
 ) -> Result<(), AllocError>
     ensures { OnOk result (string_bytes text.new ≡ string_bytes text.old ++ left_line before.now one count) }
 {
-    let rank = one.rank;
-    let source = one.source;
+    let rank = one.message.rank;
+    let source = one.message.source;
     write!(text, "{before}rank {rank}: ")?;
     print_number(text, count)?;
     write!(text, " never received, from {source}")?;
-    print_mark(text, one.mark)?;
+    print_known(text, one)?;
     text.push_str("\n")
+}
+
+fn print_known(text: &mut String<Heap>, one: LinedLeftover) -> Result<(), AllocError>
+    ensures { OnOk result (string_bytes text.new ≡ string_bytes text.old ++ known_words one) }
+{
+    print_mark(text, one.message.mark)?;
+    print_line_number(text, one.line)
+}
+
+fn print_line_number(text: &mut String<Heap>, line: Option<usize>) -> Result<(), AllocError>
+    ensures { OnOk result (string_bytes text.new ≡ string_bytes text.old ++ line_words line) }
+{
+    match line {
+        Some(line) => write!(text, ", sent at line {line}"),
+        None => Ok(()),
+    }
 }
 
 fn print_number(text: &mut String<Heap>, count: usize) -> Result<(), AllocError>

@@ -4,7 +4,7 @@ ghost use Rattle.std.specs.Fmt.{decimal};
 ghost use Rattle.explore.specs.Explored.{rank_outcomes};
 ghost use Rattle.runner.specs.Meanings.{between, cycle_line, cycle_text, cycle_words, enumeration, fault_line, fault_words, faults_text, is_of, limits_text, named_lines, named_ranks};
 ghost use Rattle.runner.specs.Meanings.{count_text, mark_text, marks_text, meaning_text, only_text, ranks_line, ranks_of, runs_text, stalls_text};
-ghost use Rattle.runner.specs.Meanings.{states_text, steps_text, unhalted_text};
+ghost use Rattle.runner.specs.Meanings.{states_text, steps_text, stop_text, unhalted_text};
 
 use audit::End;
 use explore::{Explored, FoundOutcome, RankEnd};
@@ -83,7 +83,8 @@ fn print_state_limit(text: &mut String<Heap>, found: &Explored) -> Result<(), Al
     )
 }
 
-// Whether a state came back, and which limits the search reached, if not all was looked at.
+// Whether a state came back, and where the search stopped, if the ranks may go on for ever or not
+// all was looked at.
 fn print_limits(
     text: &mut String<Heap>,
     found: &Explored,
@@ -96,6 +97,16 @@ fn print_limits(
         return Ok(());
     }
     print_cycle(text, cycle)?;
+    print_stop(text, found, runs)
+}
+
+// That the outcomes of all runs that end were found, or which limits were reached.
+fn print_stop(text: &mut String<Heap>, found: &Explored, runs: u32) -> Result<(), AllocError>
+    ensures { OnOk result (string_bytes text.new ≡ string_bytes text.old ++ stop_text found.now runs) }
+{
+    if found.closed {
+        return text.push_str("# each run that ends has one of these outcomes\n");
+    }
     print_step_limit(text, found)?;
     print_run_limit(text, found, runs)
 }
@@ -337,6 +348,8 @@ fn print_count(text: &mut String<Heap>, found: &Explored) -> Result<(), AllocErr
     let runs = found.runs;
     if found.complete {
         writeln!(text, "outcomes {outcomes}, runs {runs}, complete")
+    } else if found.closed {
+        writeln!(text, "outcomes {outcomes}, runs {runs}, closed")
     } else {
         writeln!(text, "outcomes {outcomes}, runs {runs}, stopped")
     }

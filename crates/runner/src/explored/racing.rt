@@ -3,6 +3,7 @@ ghost use Rattle.std.specs.Prelude.{IfOk, string_bytes};
 ghost use Rattle.runner.specs.OutcomesText.{IsSummary};
 
 use crate::explored::leftover::print_shorts;
+use crate::explored::lined::LinedOutcome;
 use crate::explored::meaning::print_meaning;
 use crate::explored::parting::print_place;
 use crate::explored::print_safe;
@@ -11,25 +12,26 @@ use limits::Heap;
 use std::alloc::AllocError;
 use std::fmt::Write;
 
-/// Which receives and probes had several answers, a line each, and what the
-/// outcomes mean. The statement at position K of the program stands on line
+/// Which receives and probes had several answers, a line each, what is listed of
+/// the outcomes as never received, and what they mean. The statement at position K of the program stands on line
 /// `lines[K]` of its text. An `Err` means out of memory.
 pub fn print_summary(
     alloc: Heap,
     found: &Explored,
+    left: &[LinedOutcome],
     marks: &[Option<bool>],
     cycle: &[usize],
     limits: Limits,
     lines: &[usize],
     synchronous: bool,
 ) -> Result<String<Heap>, AllocError>
-    ensures { IfOk result (λ text. IsSummary synchronous found.now marks.now cycle.now limits.runs (string_bytes text)) }
+    ensures { IfOk result (λ text. IsSummary synchronous found.now left.now marks.now cycle.now limits.runs (string_bytes text)) }
 {
     let mut text = String::new(alloc);
     for race in found.races.iter() {
         print_race(&mut text, race, lines)?;
     }
-    print_shorts(&mut text, found.outcomes.as_slice())?;
+    print_shorts(&mut text, left)?;
     print_safe(&mut text, found, synchronous)?;
     print_meaning(&mut text, found, marks, cycle, limits.runs)?;
     Ok(text)

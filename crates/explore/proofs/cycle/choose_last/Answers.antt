@@ -1,4 +1,4 @@
-use Rattle.std.proofs.Common.{◌≡◌, ◌<◌, length, sym, subst}
+use Rattle.std.proofs.Common.{◌<◌, length, sym, subst}
 use Rattle.std.specs.Prelude.{slice_index}
 use Rattle.crash_free.specs.Wanted.{StandsAtAct}
 use Rattle.explore.specs.Outcomes.{IsAmong}

@@ -1,4 +1,4 @@
-use Rattle.std.proofs.Common.{◌≡◌, ◌≢◌, ◌<◌, ◌-◌, ℕ, Some, length, slice_get}
+use Rattle.std.proofs.Common.{◌≢◌, ◌<◌, ◌-◌, ℕ, Some, length, slice_get}
 use Rattle.explore.specs.Explored.{rank_outcomes}
 use Rattle.explore.proofs.found.find.Given as goal
 

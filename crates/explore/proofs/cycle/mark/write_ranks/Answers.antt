@@ -1,4 +1,4 @@
-use Rattle.std.proofs.Common.{◌≡◌, ℕ, length, ap, sym, subst, ◌∙◌, arith}
+use Rattle.std.proofs.Common.{◌≡◌, length, ap, sym, subst, ◌∙◌, arith}
 use Rattle.std.proofs.Math.Numerals.{add-one}
 use Rattle.crash_free.specs.Standing.{no_rows, behind, and_number, and_own, and_mail, and_rank, and_below, StandsAt}
 use Rattle.crash_free.proofs.Appending.{ranks_behind}

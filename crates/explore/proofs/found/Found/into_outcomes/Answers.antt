@@ -1,4 +1,4 @@
-use Rattle.std.proofs.Common.{sym, subst}
+use Rattle.std.proofs.Common.{subst}
 use Rattle.explore.specs.Explored.{listed_left, rank_outcomes}
 use Rattle.explore.specs.Found.{AreGrouped}
 use Rattle.explore.proofs.Grouping.{are_grouped}

@@ -134,3 +134,12 @@ pub returns-in-Spent-clause-beyond : goal.returns-in-Spent-clause-beyond
 returns-in-Spent-clause-beyond c = λ steps can before cut.
     beyond_back c.args.self.now.path.sim c.take_up.new.path.sim steps c.in_ok-take_up.ensures.alike
     (c.in_ok-play.ensures.beyond c.in-Spent.is steps (c.in_ok-take_up.ensures.back steps can).counts)
+
+pub returns-in_ok-note-in-Still-clause-closes : goal.returns-in_ok-note-in-Still-clause-closes
+returns-in_ok-note-in-Still-clause-closes c = c.in_ok-play.ensures.remembers.keeps.same
+
+pub returns-in-Met-clause-closes : goal.returns-in-Met-clause-closes
+returns-in-Met-clause-closes c = c.in_ok-play.ensures.remembers.keeps.same
+
+pub returns-in-Spent-clause-closes : goal.returns-in-Spent-clause-closes
+returns-in-Spent-clause-closes c = c.in_ok-play.ensures.remembers.keeps.same

@@ -1,4 +1,4 @@
-use Rattle.std.proofs.Common.{◌++◌, ◌∷◌, [], List, length, sym, subst, arith}
+use Rattle.std.proofs.Common.{◌++◌, ◌∷◌, [], List, length, refl, sym, subst, ◌∙◌, arith}
 use Rattle.explore.specs.declared.branch.Branch.{Branch}
 use Rattle.explore.specs.Searching.{IsOn}
 use Rattle.explore.specs.Small.{EnoughForAll}
@@ -9,7 +9,7 @@ use Rattle.explore.proofs.Going.{beyond_on, fewer_back, on_back, on_own}
 use Rattle.explore.proofs.ongoing.Search.look_on.Goals as goal
 
 pub loop-branch-init : goal.loop-branch-init
-loop-branch-init c = record { on = c.requires.on; enough = λ k e. (k, e, omega arith); back = λ steps can. can; beyond = λ steps can before now. before now }
+loop-branch-init c = record { on = c.requires.on; enough = λ k e. (k, e, omega arith); closes = refl; back = λ steps can. can; beyond = λ steps can before now. before now }
 
 pub look-requires-clause-few : goal.look-requires-clause-few
 look-requires-clause-few c = (let on = c.loop-branch.invariant.on in omega (arith, c.requires.few, on.ranks))
@@ -50,6 +50,7 @@ loop-branch-preserved c =
           last x.1) in
           let less = fewer.2 in
           (fewer.0, fewer.1, omega (arith, before, less)));
+      closes = c.in_ok-look.ensures.closes ∙ c.loop-branch.invariant.closes;
       back = λ steps can. c.in_ok-look.ensures.back steps (c.loop-branch.invariant.back steps can);
       beyond =
           λ steps can start.
@@ -67,3 +68,6 @@ returns-then-branch-clause-beyond c = λ steps can start.
     beyond_on c.args.self.now.path.sim.program (length c.args.self.now.path.sim.machines) c.loop-branch.self.path.sim steps
     c.loop-branch.self.out_of_steps c.look.new.self.out_of_steps on.program_same on.ranks (c.loop-branch.invariant.beyond steps can start)
     (c.in_ok-look.ensures.beyond steps (c.loop-branch.invariant.back steps can)))
+
+pub returns-then-branch-clause-closes : goal.returns-then-branch-clause-closes
+returns-then-branch-clause-closes c = c.in_ok-look.ensures.closes ∙ c.loop-branch.invariant.closes

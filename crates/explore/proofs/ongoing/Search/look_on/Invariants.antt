@@ -15,6 +15,7 @@ invariant-loop-branch l = record {
       (stems_of l.initial.self.path.sim.run l.initial.self.pending.items)
       → (i : ℕ) × EnoughForAll l.initial.self.path.sim.program (length l.initial.self.path.sim.machines) i (stems_of l.self.path.sim.run l.self.pending.items)
       × (i ≤ k);
+  closes : l.self.met.closes ≡ l.initial.self.met.closes;
   back : KeepsStops l.initial.self.path.sim l.initial.self.path.left l.initial.self.stops l.self.path.sim l.self.path.left l.self.stops;
   beyond : (steps : ℕ) → CanGoBack steps l.initial.self.path.sim l.initial.self.path.left l.initial.self.stops
       → (l.initial.self.out_of_steps ≡ true → GoesBeyond l.initial.self.path.sim.program (length l.initial.self.path.sim.machines) steps)

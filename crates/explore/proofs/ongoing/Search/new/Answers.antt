@@ -6,7 +6,7 @@ pub returns-clause-on : goal.returns-clause-on
 returns-clause-on c =
     rw (c.in_ok-push.ensures.items, c.new-pending.ensures.items, c.new-3.ensures, c.new-4.ensures)
     (on_begins c.args.program.now c.args.ranks c.in_ok-path.path.sim _ c.in_ok-path.ensures.begins.program_same c.in_ok-path.ensures.begins.ranks
-    c.in_ok-path.ensures.begins.run refl refl)
+    c.in_ok-path.ensures.begins.run refl refl c.args.closes)
 
 pub returns-clause-back : goal.returns-clause-back
-returns-clause-back c = c.in_ok-stops.ensures c.args.steps c.in_ok-path.ensures.counts
+returns-clause-back c = c.in_ok-stops.ensures c.args.limits.steps c.in_ok-path.ensures.counts
