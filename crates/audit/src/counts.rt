@@ -14,11 +14,11 @@ use std::marker::Model;
 
 /// After each event of a rank, how many acts it and those before it stand for.
 #[derive(Drop)]
-pub struct Counts {
+pub struct ActCounts {
     ends: Vec<u32, Heap>,
 }
 
-impl Model for Counts {
+impl Model for ActCounts {
     ghost use Rattle.std.specs.Prelude.{ℕ, List};
 
     ghost Value = { List ℕ };
@@ -26,10 +26,10 @@ impl Model for Counts {
     ghost view = { λ c. c.ends.items };
 }
 
-impl Counts {
+impl ActCounts {
     /// Of these events, or `None` if they stand for more acts than a rank may
     /// make.
-    fn of(alloc: Heap, events: &[Event]) -> Result<Option<Counts>, AllocError>
+    fn of(alloc: Heap, events: &[Event]) -> Result<Option<ActCounts>, AllocError>
         ensures some { IfOk result (λ counts. IfSome counts (λ counts. counts ≡ ends_from 0 events.now)) }
         ensures none { IfOk result (λ counts. IfNone counts (greatest_clock < length (expand events.now))) }
     {
@@ -43,7 +43,7 @@ impl Counts {
             total += count;
             ends.push(total)?;
         }
-        Ok(Some(Counts { ends }))
+        Ok(Some(ActCounts { ends }))
     }
 
     /// The event of the act that comes after so many, of these events.
@@ -86,13 +86,13 @@ fn part(event: Event, count: u32, later: u32) -> Option<Event>
 
 /// Of each rank's row, or `None` if one stands for more acts than a rank may
 /// make.
-pub fn count(alloc: Heap, outcome: &Outcome) -> Result<Option<Vec<Counts, Heap>>, AllocError>
+pub fn count(alloc: Heap, outcome: &Outcome) -> Result<Option<Vec<ActCounts, Heap>>, AllocError>
     ensures some { IfOk result (λ all. IfSome all (λ all. AreCounted outcome.now.rows all.items)) }
     ensures none { IfOk result (λ all. IfNone all (AreTooMany outcome.now.rows)) }
 {
     let mut all = Vec::new(alloc);
     for row in outcome.rows.as_slice() {
-        let Some(counts) = Counts::of(alloc, row.as_slice())? else {
+        let Some(counts) = ActCounts::of(alloc, row.as_slice())? else {
             return Ok(None);
         };
         all.push(counts)?;

@@ -15,7 +15,7 @@ use Rattle.rank_machine.specs.Collectives.{greatest_ordinal}
 use Rattle.rank_machine.specs.Machine.{MachineValue}
 use Rattle.checkpoint.specs.declared.fault.ImageFault.TheVariants.{Field}
 use Rattle.rank_machine.specs.declared.status.Status.{Status}
-use Rattle.checkpoint.specs.Image.{Standing, machine_of, standing_of, status_of, lengths_of, is_underway}
+use Rattle.checkpoint.specs.Image.{MachineStanding, machine_of, standing_of, status_of, lengths_of, is_underway}
 use Rattle.checkpoint.specs.Spelling.{FitsBytes, values, lengths, fault_field, standing, status, machine}
 use Rattle.checkpoint.specs.Legal.{AreArrays, IsStanding, IsStatus, IsSaved}
 use Rattle.checkpoint.specs.Reading.{where_holds, fault_of, fault_at, standing_at}
@@ -95,7 +95,7 @@ standing_reader statements = record {
       let s3 = step (number 1) s2.rest _ (x, rest) s2.took.fits s2.on in
       let s4 = step (values_reader s3.item) s3.rest _ (x, rest) s3.took.fits s3.on in
       let s5 = step (field_reader 4 Field (λ x. nat_le x greatest_ordinal)) s4.rest _ (x, rest) s4.took.fits s4.on in
-      let made : Standing = record { position = s0.item; done = s1.item; fault = s2.item; gathered = s4.item; finished = s5.item } in
+      let made : MachineStanding = record { position = s0.item; done = s1.item; fault = s2.item; gathered = s4.item; finished = s5.item } in
       let same = ok_is (made, s5.rest) (x, rest) s5.on in
       let count : Takes s2.rest (big_bytes 1 (length s4.item)) s3.rest = subst (λ (n : ℕ). Takes s2.rest (big_bytes 1 n) s3.rest)
       (sym s4.is.count) s3.took in
@@ -118,7 +118,7 @@ standing_reader statements = record {
         values = record { count = refl; each = s4.is.each };
         finished = leb-true _ _ s5.is.passed;
       } in
-      subst (λ (p : Standing × List ℕ). Takes bytes (standing p.0) p.1 × IsStanding statements p.0) same (t05, is);
+      subst (λ (p : MachineStanding × List ℕ). Takes bytes (standing p.0) p.1 × IsStanding statements p.0) same (t05, is);
   again = λ x rest is.
       again_then (field_reader 2 Field (λ x. nat_le x statements)) x.position
       (big_bytes 1 x.done ++ (big_bytes 1 (fault_field x.fault)

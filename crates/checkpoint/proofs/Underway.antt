@@ -8,12 +8,12 @@ use Rattle.std.proofs.lemmas.List.{length-append, length-map}
 use Rattle.limits.specs.Limits.{most_ranks}
 use Rattle.rank_language.specs.Program.{ProgramValue}
 use Rattle.rank_machine.specs.declared.status.Status.{Status}
-use Rattle.rank_machine.specs.Collectives.{Kind, barriers, broadcasts, folds, Call, gives, gets, ends, others, parts, parts_among}
+use Rattle.rank_machine.specs.Collectives.{CollectiveKind, barriers, broadcasts, folds, CollectiveCall, gives, gets, ends, others, parts, parts_among}
 use Rattle.rank_machine.specs.Values.{Store}
 use Rattle.rank_machine.specs.Machine.{MachineValue, gathered_by, stages, HasStage}
 use Rattle.checkpoint.specs.declared.fault.ImageFault.{ImageFault}
 use Rattle.checkpoint.specs.declared.fault.ImageFault.TheVariants.{Version, Short, Long, Field, WrongProgram, Memory}
-use Rattle.checkpoint.specs.Image.{Standing, call_of, is_underway, lengths_of, machine_of}
+use Rattle.checkpoint.specs.Image.{MachineStanding, call_of, is_underway, lengths_of, machine_of}
 use Rattle.checkpoint.specs.Spelling.{FitsBytes}
 use Rattle.checkpoint.specs.Reading.{Fails, ◌>>=◌, where_holds, where_underway, standing_at, status_at, values_at, arrays_at, machine_at}
 
@@ -30,7 +30,7 @@ others_most r from (suc count) = at (from == r) (others_most r (from + 1) count)
     at false most = omega (arith, most)
 
 -- the parts of a collective among more than one rank are at most two with each rank, or two in all
-among_most : (kind : Kind) (root n r : ℕ) → length (parts_among kind root n r) ≤ n + n + 2
+among_most : (kind : CollectiveKind) (root n r : ℕ) → length (parts_among kind root n r) ≤ n + n + 2
 among_most barriers root n r = at (r == 0)
   where
     at : (b : Bool) → length (if b then map gets (others 0 0 n) ++ map gives (others 0 0 n) else gives 0 ∷ gets 0 ∷ []) ≤ n + n + 2
@@ -53,7 +53,7 @@ among_most (folds f) root n r = at (r == root)
     at false = omega arith
 
 -- so are all parts
-parts_most : (kind : Kind) (root n r : ℕ) → length (parts kind root n r) ≤ n + n + 2
+parts_most : (kind : CollectiveKind) (root n r : ℕ) → length (parts kind root n r) ≤ n + n + 2
 parts_most kind root n r = at (n == 1)
   where
     at : (b : Bool) → length (if b then ends ∷ [] else parts_among kind root n r) ≤ n + n + 2
@@ -61,7 +61,7 @@ parts_most kind root n r = at (n == 1)
     at false = among_most kind root n r
 
 -- the root of a reduce has at most one part with each rank and its own step
-folded_most : (kind : Kind) (root n r : ℕ) (f : _) → kind ≡ folds f → root ≡ r → length (parts kind root n r) ≤ n + 1
+folded_most : (kind : CollectiveKind) (root n r : ℕ) (f : _) → kind ≡ folds f → root ≡ r → length (parts kind root n r) ≤ n + 1
 folded_most kind root n r f e same = rw (e, same) (at (n == 1))
   where
     at : (b : Bool) → length (if b then ends ∷ [] else parts_among (folds f) r n r) ≤ n + 1
@@ -71,7 +71,7 @@ folded_most kind root n r f e same = rw (e, same) (at (n == 1))
         rw (eq-eqb r r refl, length-append (map gets (others r 0 n)) (ends ∷ []), length-map (others r 0 n) gets) (omega (arith, most))
 
 -- what is done of a collective takes one byte
-pub few_done : (s : Store) (o : Option Call) → HasStage s o → s.size ≤ most_ranks → FitsBytes 1 s.done
+pub few_done : (s : Store) (o : Option CollectiveCall) → HasStage s o → s.size ≤ most_ranks → FitsBytes 1 s.done
 few_done s None is few = let below = is.0 in omega (arith, below)
 few_done s (Some call) is few =
     let below = is.0 in
@@ -79,7 +79,7 @@ few_done s (Some call) is few =
     omega (arith, below, most, few)
 
 -- so many values a rank can have gathered with fewer than all parts done
-gathered_most : (kind : Kind) (root n r done : ℕ) → done < length (parts kind root n r) → gathered_by kind (root == r) done ≤ n
+gathered_most : (kind : CollectiveKind) (root n r done : ℕ) → done < length (parts kind root n r) → gathered_by kind (root == r) done ≤ n
 gathered_most barriers root n r done below = omega arith
 gathered_most broadcasts root n r done below = omega arith
 gathered_most (folds f) root n r done below = at (root == r) refl
@@ -89,7 +89,7 @@ gathered_most (folds f) root n r done below = at (root == r) refl
     at false e = omega arith
 
 -- no more values are gathered than there are ranks
-room_suffices : (s : Store) (o : Option Call) → HasStage s o → length s.gathered ≤ s.size
+room_suffices : (s : Store) (o : Option CollectiveCall) → HasStage s o → length s.gathered ≤ s.size
 room_suffices s None is = let none = is.1 in omega (arith, none)
 room_suffices s (Some call) is =
     let same = is.1 in
@@ -97,7 +97,7 @@ room_suffices s (Some call) is =
     omega (arith, same, most)
 
 -- their number takes one byte
-pub few_gathered : (s : Store) (o : Option Call) → HasStage s o → s.size ≤ most_ranks → FitsBytes 1 (length s.gathered)
+pub few_gathered : (s : Store) (o : Option CollectiveCall) → HasStage s o → s.size ≤ most_ranks → FitsBytes 1 (length s.gathered)
 few_gathered s o is few = let most = room_suffices s o is in omega (arith, most, few)
 
 -- ---- the test
@@ -157,7 +157,7 @@ room_fails e m rest x failed = at (nat_le (length m.store.gathered) m.store.size
 
 -- where all but the values gathered was read, and these have no room, the whole is refused so
 pub refused : {A : Type 0} (p : ProgramValue) (rank size : ℕ) (bytes : List ℕ) (e : ImageFault) (x : A)
-    (standing : Standing × List ℕ) (status : Status × List ℕ) (variables : List ℤ × List ℕ) (arrays : List (List ℤ) × List ℕ)
+    (standing : MachineStanding × List ℕ) (status : Status × List ℕ) (variables : List ℤ × List ℕ) (arrays : List (List ℤ) × List ℕ)
     → standing_at (length p.statements) bytes ≡ Ok standing → status_at size standing.1 ≡ Ok status
     → values_at (length p.variables) status.1 ≡ Ok variables → arrays_at (lengths_of p) variables.1 ≡ Ok arrays
     → Fails e (where_holds (nat_le (length standing.0.gathered) size) Field x) → Fails e (machine_at p rank size bytes)

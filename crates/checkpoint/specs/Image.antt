@@ -7,7 +7,7 @@ use Rattle.payload_log.specs.Backlog.{BacklogValue}
 use Rattle.rank_language.specs.Program.{ProgramValue}
 use Rattle.rank_machine.specs.declared.fault.MachineFault.{MachineFault}
 use Rattle.rank_machine.specs.declared.status.Status.{Status}
-use Rattle.rank_machine.specs.Collectives.{Call}
+use Rattle.rank_machine.specs.Collectives.{CollectiveCall}
 use Rattle.rank_machine.specs.Machine.{MachineValue, line_at, call_at, stages, gathers}
 
 -- what an image says: the machine, the clock of the last act, the inbox with what was accepted, and
@@ -28,7 +28,7 @@ at_rest i = record i { log = map rewound i.log }
 
 -- Where a machine stands: its position, the acts done in the collective there, the fault that an
 -- act left, the values gathered there, and how many collectives it has finished.
-pub record Standing : Type 0 where
+pub record MachineStanding : Type 0 where
   pub position : ℕ
   pub done : ℕ
   pub fault : Option MachineFault
@@ -36,7 +36,7 @@ pub record Standing : Type 0 where
   pub finished : ℕ
 
 -- where it stands
-abbrev pub standing_of : MachineValue → Standing
+abbrev pub standing_of : MachineValue → MachineStanding
 standing_of m = record {
   position = m.position;
   done = m.store.done;
@@ -47,7 +47,7 @@ standing_of m = record {
 
 -- the collective at a machine's position, as it is called there; none at another line, and none if
 -- its call faults
-abbrev pub call_of : MachineValue → Option Call
+abbrev pub call_of : MachineValue → Option CollectiveCall
 call_of m = call_at m.store (line_at m)
 
 -- a machine can have done so much of the collective at its position, and gathered so many values
@@ -65,7 +65,7 @@ abbrev pub lengths_of : ProgramValue → List ℕ
 lengths_of p = map (λ a. a.1) p.arrays
 
 -- the machine that stands so
-abbrev pub machine_of : ProgramValue → ℕ → ℕ → Standing → Status → List ℤ → List (List ℤ) → MachineValue
+abbrev pub machine_of : ProgramValue → ℕ → ℕ → MachineStanding → Status → List ℤ → List (List ℤ) → MachineValue
 machine_of p rank size standing status variables arrays = record {
   program = p;
   position = standing.position;

@@ -14,7 +14,7 @@ use Rattle.rank_machine.specs.Machine.{MachineValue, HasStage}
 use Rattle.rank_machine.specs.declared.status.Status.{Status}
 use Rattle.checkpoint.specs.declared.format.Format.{Format}
 use Rattle.checkpoint.specs.Spelling.{FitsBytes, text_in}
-use Rattle.checkpoint.specs.Image.{ImageValue, Standing, standing_of, call_of, status_of, lengths_of}
+use Rattle.checkpoint.specs.Image.{ImageValue, MachineStanding, standing_of, call_of, status_of, lengths_of}
 use Rattle.checkpoint.specs.Reading.{last_clock, most_ranks_in}
 
 -- each item is legal behind those before it
@@ -85,7 +85,7 @@ pub record IsTable (p : ProgramValue) : Type 0 where
   pub lengths : AllByRecursion (λ a. FitsBytes 2 a.1) p.arrays
 
 -- where a machine can stand in a program of so many statements, whatever collective stands there
-pub record IsStanding (statements : ℕ) (s : Standing) : Type 0 where
+pub record IsStanding (statements : ℕ) (s : MachineStanding) : Type 0 where
   pub position : s.position ≤ statements
   pub word : FitsBytes 2 s.position
   pub done : FitsBytes 1 s.done

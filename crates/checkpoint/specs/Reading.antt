@@ -23,7 +23,7 @@ use Rattle.rank_machine.specs.declared.status.Status.{Status}
 use Rattle.checkpoint.specs.declared.format.Format.{Format}
 use Rattle.checkpoint.specs.declared.format.Format.TheVariants.{One, Two}
 use Rattle.checkpoint.specs.Spelling.{number_of, event_version}
-use Rattle.checkpoint.specs.Image.{ImageValue, Standing, machine_of, lengths_of, is_underway}
+use Rattle.checkpoint.specs.Image.{ImageValue, MachineStanding, machine_of, lengths_of, is_underway}
 
 -- what is read, and the bytes behind it; or the first fault
 abbrev pub Read : Type 0 → Type 0
@@ -202,7 +202,7 @@ fault_at bytes = do
   Ok (fault_of x.0, x.1)
 
 -- where a machine stands
-unfoldable pub standing_at : ℕ → List ℕ → Read Standing
+unfoldable pub standing_at : ℕ → List ℕ → Read MachineStanding
 standing_at statements bytes = do
   position ← field 2 Field (λ x. nat_le x statements) bytes
   done ← number_at 1 position.1

@@ -1,9 +1,9 @@
 -- What the code reads, as the definitions see it.
-use Rattle.checkpoint.specs.declared.read_machine.Standing as source
-use Rattle.checkpoint.specs.Image.{Standing}
+use Rattle.checkpoint.specs.declared.read_machine.MachineStanding as source
+use Rattle.checkpoint.specs.Image.{MachineStanding}
 
 -- where a machine stands, as it was read
-abbrev pub standing_seen : source.Standing → Standing
+abbrev pub standing_seen : source.MachineStanding → MachineStanding
 standing_seen s = record {
   position = s.position;
   done = s.done;

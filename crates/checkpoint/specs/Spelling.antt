@@ -16,7 +16,7 @@ use Rattle.matching.specs.Inbox.{Mailbox}
 use Rattle.rank_machine.specs.declared.status.Status.{Status}
 use Rattle.checkpoint.specs.declared.format.Format.{Format}
 use Rattle.checkpoint.specs.declared.format.Format.TheVariants.{One, Two}
-use Rattle.checkpoint.specs.Image.{ImageValue, Standing, standing_of, status_of}
+use Rattle.checkpoint.specs.Image.{ImageValue, MachineStanding, standing_of, status_of}
 
 -- a number that so many bytes can spell
 abbrev pub FitsBytes : ℕ → ℕ → Type 0
@@ -89,7 +89,7 @@ fault_field None = 0
 fault_field (Some k) = fault_number k
 
 -- where the machine stands
-unfoldable pub standing : Standing → List ℕ
+unfoldable pub standing : MachineStanding → List ℕ
 standing s =
     big_bytes 2 s.position ++ (big_bytes 1 s.done ++ (big_bytes 1 (fault_field s.fault) ++ (big_bytes 1 (length s.gathered)
     ++ (values s.gathered ++ big_bytes 4 s.finished))))

@@ -19,7 +19,7 @@ use rank_machine::{Gathered, Items, Machine, MachineFault, Parts, Status};
 
 /// Where a machine stands.
 #[derive(Drop)]
-pub struct Standing {
+pub struct MachineStanding {
     pub position: u16,
     pub done: u8,
     pub fault: Option<MachineFault>,
@@ -134,7 +134,7 @@ fn standing_of(
     alloc: Heap,
     statements: usize,
     bytes: &[u8],
-) -> Result<(Standing, &[u8]), ImageFault>
+) -> Result<(MachineStanding, &[u8]), ImageFault>
     ensures read { Gives (λ x. (standing_seen x.0, x.1.now)) result (standing_at statements bytes.now) }
     ensures within { IfOk result (λ x. x.0.position ≤ statements) }
     ensures left { IfOk result (λ x. IsLeft x.0.fault) }
@@ -152,7 +152,7 @@ fn standing_of(
     if finished > GREATEST_CLOCK {
         return Err(ImageFault::Field);
     }
-    let standing = Standing {
+    let standing = MachineStanding {
         position,
         done,
         fault,

@@ -5,7 +5,7 @@ use std::alloc::{AllocError, Global};
 
 /// A command of the program, and what its help says.
 #[derive(Clone, Copy)]
-pub struct Form {
+pub struct CommandForm {
     pub name: &'static str,
     pub about: &'static str,
     /// What stands behind its words.
@@ -21,7 +21,7 @@ pub struct Argument {
     /// How a help calls what is given.
     pub value: &'static str,
     pub help: &'static str,
-    pub given: Given,
+    pub given: ArgumentKind,
     /// What it is given where it isn't there.
     pub default: Option<&'static str>,
     pub is_required: bool,
@@ -35,7 +35,7 @@ pub struct Argument {
 
 /// What is given for an argument.
 #[derive(Clone, Copy)]
-pub enum Given {
+pub enum ArgumentKind {
     /// A file that stands at its place.
     File,
     /// Nothing: the option is there or not.
@@ -51,7 +51,7 @@ pub const FILE: Argument = Argument {
     name: "",
     value: "",
     help: "",
-    given: Given::File,
+    given: ArgumentKind::File,
     default: None,
     is_required: true,
     is_hidden: false,
@@ -61,7 +61,7 @@ pub const FILE: Argument = Argument {
 
 /// An option that is given nothing.
 pub const FLAG: Argument = Argument {
-    given: Given::Nothing,
+    given: ArgumentKind::Nothing,
     is_required: false,
     ..FILE
 };
@@ -69,14 +69,14 @@ pub const FLAG: Argument = Argument {
 /// An option that is given a file.
 pub const FILE_OF: Argument = Argument {
     value: "FILE",
-    given: Given::Text,
+    given: ArgumentKind::Text,
     is_required: false,
     ..FILE
 };
 
 /// An option that is given a number from 1 to 1000000000.
 pub const NUMBER: Argument = Argument {
-    given: Given::Number {
+    given: ArgumentKind::Number {
         least: 1,
         most: 1000000000,
     },
@@ -89,7 +89,7 @@ pub const RANKS: Argument = Argument {
     name: "ranks",
     value: "N",
     help: "The number of ranks, 1 to 16",
-    given: Given::Number {
+    given: ArgumentKind::Number {
         least: 1,
         most: MOST_RANKS as i64,
     },
@@ -110,10 +110,10 @@ impl Argument {
 
     fn given<'a>(&self, argument: Arg<'a>) -> Arg<'a> {
         match self.given {
-            Given::File => self.value(argument),
-            Given::Nothing => argument.long(self.name).action(ArgAction::SetTrue),
-            Given::Text => self.option(argument),
-            Given::Number { least, most } => self
+            ArgumentKind::File => self.value(argument),
+            ArgumentKind::Nothing => argument.long(self.name).action(ArgAction::SetTrue),
+            ArgumentKind::Text => self.option(argument),
+            ArgumentKind::Number { least, most } => self
                 .option(argument)
                 .value_parser(value_parser!(u32).range(least..=most)),
         }
@@ -142,7 +142,7 @@ fn required_by<'a>(argument: Arg<'a>, other: Option<&'static str>) -> Result<Arg
     }
 }
 
-impl Form {
+impl CommandForm {
     /// The same for `clap`. An error means out of memory.
     pub fn made<'a>(&self, alloc: Global) -> Result<Command<'a>, AllocError> {
         let mut command = Command::new(alloc, self.name)

@@ -1,7 +1,7 @@
 //! The words of `catch-up`.
 ghost use Rattle.std.specs.Prelude.{◌≤◌};
 
-use crate::argument::{Argument, FLAG, Form, NUMBER, RANKS};
+use crate::argument::{Argument, CommandForm, FLAG, NUMBER, RANKS};
 use crate::help;
 use crate::job::WorldJob;
 use crate::syntax::{EVENTS, PROGRAM};
@@ -16,7 +16,7 @@ pub struct FinishJob<'a> {
 }
 
 /// The form of the words.
-pub const CATCH_UP: Form = Form {
+pub const CATCH_UP: CommandForm = CommandForm {
     name: "catch-up",
     about: "Prints events that bring a world's ranks back to where they were",
     help: help::CATCH_UP,

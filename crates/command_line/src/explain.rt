@@ -2,7 +2,7 @@
 ghost use Rattle.std.specs.Prelude.{◌≤◌};
 ghost use Rattle.limits.specs.Limits.{most_ranks};
 
-use crate::argument::{Argument, FILE_OF, Form, RANKS};
+use crate::argument::{Argument, CommandForm, FILE_OF, RANKS};
 use crate::help;
 use crate::syntax::PROGRAM;
 
@@ -18,7 +18,7 @@ pub struct ExplainJob<'a> {
 }
 
 /// The form of the words.
-pub const EXPLAIN: Form = Form {
+pub const EXPLAIN: CommandForm = CommandForm {
     name: "explain",
     about: "Explains a text's first fault: where it is and what was expected",
     help: help::EXPLAIN,

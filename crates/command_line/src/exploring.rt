@@ -2,7 +2,7 @@
 ghost use Rattle.std.specs.Prelude.{◌≤◌};
 ghost use Rattle.limits.specs.Limits.{most_ranks};
 
-use crate::argument::{Argument, FLAG, Form, NUMBER, RANKS};
+use crate::argument::{Argument, CommandForm, FLAG, NUMBER, RANKS};
 use crate::help;
 use crate::syntax::{PROGRAM, SYNCHRONOUS};
 
@@ -36,7 +36,7 @@ pub struct ExploreJob<'a> {
 }
 
 /// The form of the words.
-pub const EXPLORE: Form = Form {
+pub const EXPLORE: CommandForm = CommandForm {
     name: "explore",
     about: "Finds every outcome that a program can have, whatever the order",
     help: help::EXPLORE,

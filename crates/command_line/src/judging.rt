@@ -2,7 +2,7 @@
 ghost use Rattle.std.specs.Prelude.{◌≤◌};
 ghost use Rattle.limits.specs.Limits.{most_ranks};
 
-use crate::argument::{Argument, FILE, FLAG, Form, NUMBER, RANKS};
+use crate::argument::{Argument, CommandForm, FILE, FLAG, NUMBER, RANKS};
 use crate::help;
 use crate::syntax::PROGRAM;
 
@@ -21,7 +21,7 @@ pub struct JudgeJob<'a> {
 }
 
 /// The form of the words.
-pub const JUDGE: Form = Form {
+pub const JUDGE: CommandForm = CommandForm {
     name: "judge",
     about: "Says whether some run without crashes has an outcome",
     help: help::JUDGE,

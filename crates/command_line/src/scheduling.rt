@@ -3,7 +3,7 @@ ghost use Rattle.std.specs.Prelude.{◌≡◌, IfSome, codes};
 ghost use Rattle.command_line.specs.Schedules.{IsPolicyIf, IsSchedulingOf, policy_word};
 ghost use Rattle.command_line.specs.Words.{texts, value_of};
 
-use crate::argument::{Argument, FILE_OF, Given, NUMBER};
+use crate::argument::{Argument, ArgumentKind, FILE_OF, NUMBER};
 use crate::words::{is, limit_or, number_or, value_of};
 
 /// In which order ranks take turns that take them on one thread.
@@ -44,7 +44,7 @@ pub const SEED: Argument = Argument {
     name: "seed",
     value: "S",
     help: "Seed of the turns, 0 to 1000000000; 1 if not given",
-    given: Given::Number {
+    given: ArgumentKind::Number {
         least: 0,
         most: 1000000000,
     },

@@ -2,7 +2,7 @@
 ghost use Rattle.std.specs.Prelude.{◌+◌, ◌≤◌};
 ghost use Rattle.limits.specs.Limits.{most_ranks, most_script_lines};
 
-use crate::argument::{Argument, Form, Given, NUMBER, RANKS};
+use crate::argument::{Argument, ArgumentKind, CommandForm, NUMBER, RANKS};
 use crate::help;
 use crate::scheduling::{SCHEDULE, SEED, Scheduling, TURNS};
 use crate::syntax::{IDLE, IMAGES_EVERY, PROGRAM, STEPS_OF_A_RUN};
@@ -43,7 +43,7 @@ pub struct SoakScriptJob<'a> {
 }
 
 /// The form of the words.
-pub const SOAK: Form = Form {
+pub const SOAK: CommandForm = CommandForm {
     name: "soak",
     about: "Runs a program many times, crashes its ranks at random, and counts",
     help: help::SOAK,
@@ -89,7 +89,7 @@ pub const SOAK: Form = Form {
 /// How many lines of a kind a script has at most.
 const LINES: Argument = Argument {
     value: "M",
-    given: Given::Number {
+    given: ArgumentKind::Number {
         least: 0,
         most: MOST_SCRIPT_LINES as i64 / 2,
     },

@@ -1,5 +1,5 @@
 //! What the words of `trace` ask for.
-use crate::argument::{Argument, FLAG, Form, RANKS};
+use crate::argument::{Argument, CommandForm, FLAG, RANKS};
 use crate::help;
 use crate::job::RunJob;
 use crate::scheduling::{SCHEDULE, SEED, TURNS};
@@ -24,7 +24,7 @@ pub struct TraceJob<'a> {
 }
 
 /// The form of the words.
-pub const TRACE: Form = Form {
+pub const TRACE: CommandForm = CommandForm {
     name: "trace",
     about: "Runs a program and prints what each rank did, and why it ended",
     help: help::TRACE,

@@ -9,7 +9,7 @@ use Rattle.rank_language.specs.Placed.{barrier, broadcast, reduce, collect}
 use Rattle.rank_language.specs.Block.{Block, plain}
 use Rattle.rank_machine.specs.declared.fault.MachineFault.{MachineFault}
 use Rattle.rank_machine.specs.Values.{Store, Valued, ◌>>=◌}
-use Rattle.rank_machine.specs.Collectives.{Kind, barriers, broadcasts, folds, Call, called, gives, gets, parts, part_of, parts_of, is_last}
+use Rattle.rank_machine.specs.Collectives.{CollectiveKind, barriers, broadcasts, folds, CollectiveCall, called, gives, gets, parts, part_of, parts_of, is_last}
 use Rattle.rank_machine.specs.Collectives.{counted, given_by}
 use Rattle.rank_machine.specs.States.{State}
 use Rattle.rank_machine.specs.Wants.{payload, want_of, or_fault, part_want}
@@ -25,7 +25,7 @@ use Rattle.crash_free.proofs.OtherSteps.{split, stands_there, written_keeps, act
 use Rattle.crash_free.proofs.Sound.{Has, Has-longer, Has-last, IsStored, Checked, IsCount, IsUnder, IsProgress, IsWay, Sound, moved, closed, sound_inners}
 
 -- what was got stays so after one more act, where more was gathered
-weaker : (h : History) (x : Act × Option Message) (call : Call) (g g' : List ℤ) (i q : ℕ)
+weaker : (h : History) (x : Act × Option Message) (call : CollectiveCall) (g g' : List ℤ) (i q : ℕ)
     → ((vs : List ℤ) → IsStored call.kind g i vs → IsStored call.kind g' i vs) → Checked h call g i q → Checked (h ++ x ∷ []) call g' i q
 weaker h x call g g' i q w c =
     record {
@@ -39,7 +39,7 @@ weaker h x call g g' i q w c =
     }
 
 -- one more part is done
-next_under : (h : History) (x : Act × Option Message) (s : Store) (call : Call) (g' : List ℤ) → IsUnder h s call
+next_under : (h : History) (x : Act × Option Message) (s : Store) (call : CollectiveCall) (g' : List ℤ) → IsUnder h s call
     → (s.done + 1 ≡ length (parts_of s call) → ⊥)
     → ((i : ℕ) (vs : List ℤ) → IsStored call.kind s.gathered i vs → IsStored call.kind g' i vs)
     → ((q : ℕ) → slice_get (parts_of s call) s.done ≡ Some (gets q) → Checked (h ++ x ∷ []) call g' s.done q)
@@ -54,7 +54,7 @@ next_under h x s call g' u ne weak new count =
         subst (λ j. Checked (h ++ x ∷ []) call g' j q) same (new q (ap (slice_get (parts_of s call)) same ∙ e))
 
 -- after a part: the next one stands, or none is under way
-pass_sound : (r n : ℕ) (h : History) (s s' : Store) (c : statements.Collective) (t : Block) (call : Call) → r < n → s'.rank ≡ r → s'.size ≡ n
+pass_sound : (r n : ℕ) (h : History) (s s' : Store) (c : statements.Collective) (t : Block) (call : CollectiveCall) → r < n → s'.rank ≡ r → s'.size ≡ n
     → is_last s' call ≡ is_last s call
     → ((s.done + 1 ≡ length (parts_of s call) → ⊥) → IsWay h (record s' { done = s'.done + 1 }) (Some c))
     → Sound r n h (gone s s' c t call)
@@ -72,19 +72,19 @@ pass_sound r n h s s' c t call l er es same more = by_last (cases_eq (s.done + 1
         subst (Sound r n h) (sym all) (record { rank = er; size = es; way = more ne })
 
 -- a send of a reduce is its last part, so no count is asked for after it
-count_gave : (kind : Kind) (root n r i d : ℕ) (g : List ℤ) → slice_get (parts kind root n r) i ≡ Some (gives d)
+count_gave : (kind : CollectiveKind) (root n r i d : ℕ) (g : List ℤ) → slice_get (parts kind root n r) i ≡ Some (gives d)
     → (i + 1 ≡ length (parts kind root n r) → ⊥) → IsCount kind g (i + 1)
 count_gave barriers root n r i d g e ne = tt
 count_gave broadcasts root n r i d g e ne = tt
 count_gave (folds f) root n r i d g e ne = absurd (ne (reduce_gives f root n r i d e))
 
 -- the call is the same at the next part
-way_same : (h : History) (s : Store) (c : statements.Collective) (call : Call) (g : List ℤ) → called s c ≡ Ok call
+way_same : (h : History) (s : Store) (c : statements.Collective) (call : CollectiveCall) (g : List ℤ) → called s c ≡ Ok call
     → IsUnder h (at_part s (s.done + 1) g) call → IsWay h (at_part s (s.done + 1) g) (Some c)
 way_same h s c call g e u = rw (called_same s (s.done + 1) g c, e) u
 
 -- after a send of a collective
-gave_sound : (r n : ℕ) (h : History) (s : Store) (c : statements.Collective) (t : Block) (call : Call) (act : Act) (m : Option Message) (b : State)
+gave_sound : (r n : ℕ) (h : History) (s : Store) (c : statements.Collective) (t : Block) (call : CollectiveCall) (act : Act) (m : Option Message) (b : State)
     → r < n → s.rank ≡ r → s.size ≡ n → called s c ≡ Ok call → IsUnder h s call → Gave s c t call act m b → Sound r n (h ++ (act, m) ∷ []) b
 gave_sound r n h s c t call act m b l er es e u o =
     subst (Sound r n (h ++ (act, m) ∷ [])) (sym o.after) (pass_sound r n (h ++ (act, m) ∷ []) s s c t call l er es refl more)
@@ -102,7 +102,7 @@ gave_sound r n h s c t call act m b l er es e u o =
         (count_gave call.kind call.root s.size s.rank s.done o.dest s.gathered there ne))
 
 -- what a broadcast gets is its last part
-pub took_last : (kind : Kind) (root n r i q : ℕ) → kind ≡ broadcasts → slice_get (parts kind root n r) i ≡ Some (gets q)
+pub took_last : (kind : CollectiveKind) (root n r i q : ℕ) → kind ≡ broadcasts → slice_get (parts kind root n r) i ≡ Some (gets q)
     → i + 1 ≡ length (parts kind root n r)
 took_last kind root n r i q k e =
     let p = broadcast_gets root n r i q (ap (λ z. slice_get (parts z root n r) i) (sym k) ∙ e) in
@@ -122,13 +122,13 @@ length_one (x ∷ g) v zero e = absurd (omega (arith, e))
 length_one (x ∷ g) v (suc i) e = (let m = length_one g v i (omega (arith, e)) in omega (arith, m))
 
 -- what is stored stays so where more is gathered
-stored_weak : (kind : Kind) (g extra : List ℤ) (i : ℕ) (vs : List ℤ) → IsStored kind g i vs → IsStored kind (g ++ extra) i vs
+stored_weak : (kind : CollectiveKind) (g extra : List ℤ) (i : ℕ) (vs : List ℤ) → IsStored kind g i vs → IsStored kind (g ++ extra) i vs
 stored_weak barriers g extra i vs k = tt
 stored_weak broadcasts g extra i vs k = tt
 stored_weak (folds f) g extra i vs k = (k.0, k.1, longer_at g extra i k.0 k.2)
 
 -- what a reduce took is stored at its place
-stored_took : (call : Call) (f : Reduction) (items vs g : List ℤ) (i : ℕ) (kind : Kind) → call.kind ≡ kind → kind ≡ folds f
+stored_took : (call : CollectiveCall) (f : Reduction) (items vs g : List ℤ) (i : ℕ) (kind : CollectiveKind) → call.kind ≡ kind → kind ≡ folds f
     → given_by call items ≡ Ok vs → IsCount kind g i → IsStored kind (g ++ vs) i vs × IsCount kind (g ++ vs) (i + 1)
 stored_took call f items vs g i barriers k k' a count = absurd cc
 stored_took call f items vs g i broadcasts k k' a count = absurd cc
@@ -141,7 +141,7 @@ stored_took call f items vs g i (folds f') k k' a count =
     one_value f' vs g i v e count = ((v, e, rw e (one_last g v i count)), rw e (length_one g v i count))
 
 -- the part that was got is one of this call
-took_new : (h : History) (s : Store) (c : statements.Collective) (t : Block) (call : Call) (act : Act) (m : Option Message) (b : State) (g' : List ℤ)
+took_new : (h : History) (s : Store) (c : statements.Collective) (t : Block) (call : CollectiveCall) (act : Act) (m : Option Message) (b : State) (g' : List ℤ)
     → (o : Took s c t call act m b) → s.done < length (parts_of s call) → IsStored call.kind g' s.done o.items
     → (q : ℕ) → slice_get (parts_of s call) s.done ≡ Some (gets q) → Checked (h ++ (act, m) ∷ []) call g' s.done q
 took_new h s c t call act m b g' o w stored q f =
@@ -162,13 +162,13 @@ took_new h s c t call act m b g' o w stored q f =
     })
 
 -- a barrier stores nothing
-stored_barrier : (kind : Kind) (g : List ℤ) (i k : ℕ) (vs : List ℤ) → kind ≡ barriers → IsStored kind g i vs × IsCount kind g k
+stored_barrier : (kind : CollectiveKind) (g : List ℤ) (i k : ℕ) (vs : List ℤ) → kind ≡ barriers → IsStored kind g i vs × IsCount kind g k
 stored_barrier barriers g i k vs e = (tt, tt)
 stored_barrier broadcasts g i k vs e = absurd cc
 stored_barrier (folds f) g i k vs e = absurd cc
 
 -- after a reception of a collective
-took_sound : (r n : ℕ) (h : History) (s : Store) (c : statements.Collective) (t : Block) (call : Call) (act : Act) (m : Option Message) (b : State)
+took_sound : (r n : ℕ) (h : History) (s : Store) (c : statements.Collective) (t : Block) (call : CollectiveCall) (act : Act) (m : Option Message) (b : State)
     → r < n → s.rank ≡ r → s.size ≡ n → called s c ≡ Ok call → IsUnder h s call → Took s c t call act m b → Sound r n (h ++ (act, m) ∷ []) b
 took_sound r n h s barrier t call act m b l er es e u o =
     let k = (is_call s barrier call (omega (arith, l, es)) e).kind in
@@ -196,12 +196,12 @@ took_sound r n h s (reduce f x v p) t call act m b l er es e u o =
     (next_under h (act, m) s call (s.gathered ++ o.items) u ne (λ i vs. stored_weak call.kind s.gathered o.items i vs) new z.1)))
 
 -- a collective under way is so after one more act that leaves it
-under_longer : (h : History) (x : Act × Option Message) (s : Store) (call : Call) → IsUnder h s call → IsUnder (h ++ x ∷ []) s call
+under_longer : (h : History) (x : Act × Option Message) (s : Store) (call : CollectiveCall) → IsUnder h s call → IsUnder (h ++ x ∷ []) s call
 under_longer h x s call u =
     record { within = u.within; checked = λ i q b e. weaker h x call s.gathered s.gathered i q (λ vs k. k) (u.checked i q b e); count = u.count }
 
 -- after any act of a collective
-outcome_sound : (r n : ℕ) (h : History) (s : Store) (c : statements.Collective) (t : Block) (call : Call) (act : Act) (m : Option Message) (b : State)
+outcome_sound : (r n : ℕ) (h : History) (s : Store) (c : statements.Collective) (t : Block) (call : CollectiveCall) (act : Act) (m : Option Message) (b : State)
     → r < n → s.rank ≡ r → s.size ≡ n → called s c ≡ Ok call → IsUnder h s call → Outcome s c t call act m b → Sound r n (h ++ (act, m) ∷ []) b
 outcome_sound r n h s c t call act m b l er es e u (inl o) = gave_sound r n h s c t call act m b l er es e u o
 outcome_sound r n h s c t call act m b l er es e u (inr (inl o)) = took_sound r n h s c t call act m b l er es e u o
@@ -212,13 +212,13 @@ outcome_sound r n h s c t call act m b l er es e u (inr (inr o)) =
 pub no_call : (s : Store) (c : statements.Collective) (t : Block) (act : Act) (m : Option Message) (k : MachineFault) → called s c ≡ Err k
     → Makes (standing s c t) act m → ⊥
 no_call s c t act m k e f =
-    (let P : Valued Call → Type 0 = λ v. Fits (or_fault (v >>= (λ call. part_want s c call (part_of s call)))) (payload (standing s c t)) act m in
+    (let P : Valued CollectiveCall → Type 0 = λ v. Fits (or_fault (v >>= (λ call. part_want s c call (part_of s call)))) (payload (standing s c t)) act m in
     let g : P (Err k) = subst P e f in
     g)
 
 -- an act of a collective
 call_sound : (r n : ℕ) (h : History) (s : Store) (c : statements.Collective) (t : Block) (act : Act) (m : Option Message)
-    → r < n → s.rank ≡ r → s.size ≡ n → (v : Valued Call) → called s c ≡ v → IsProgress h s v
+    → r < n → s.rank ≡ r → s.size ≡ n → (v : Valued CollectiveCall) → called s c ≡ v → IsProgress h s v
     → Makes (standing s c t) act m → Sound r n (h ++ (act, m) ∷ []) (next (standing s c t) act m)
 call_sound r n h s c t act m l er es (Ok call) e u f =
     outcome_sound r n h s c t call act m (next (standing s c t) act m) l er es e u (made s c t call e act m f)

@@ -5,7 +5,7 @@ use Rattle.rank_language.specs.Placed.{Buffer, declare, declare_array, assign, a
 use Rattle.rank_language.specs.Block.{Block, done, plain, if_only, if_else, loop}
 use Rattle.rank_machine.specs.declared.fault.MachineFault.{MachineFault}
 use Rattle.rank_machine.specs.Values.{Valued}
-use Rattle.rank_machine.specs.Collectives.{Call, called}
+use Rattle.rank_machine.specs.Collectives.{CollectiveCall, called}
 use Rattle.rank_machine.specs.States.{State}
 use Rattle.rank_machine.specs.Acts.{Act, Message, sends, takes, hits, misses, prints}
 use Rattle.rank_machine.specs.Acts.{after_receive, after_probe, after_try_probe, collected, after_collect, after_first, unless_faulted}
@@ -37,7 +37,7 @@ try_clock a f r misses m c = refl
 try_clock a f r (prints v) m c = refl
 
 -- of a packet of a collective
-collected_clock : (a : State) (x : Collective) (r : Block) (m : Message) (c : ℕ) (v : Valued Call)
+collected_clock : (a : State) (x : Collective) (r : Block) (m : Message) (c : ℕ) (v : Valued CollectiveCall)
     → collected a x r (record m { clock = c }) v ≡ collected a x r m v
 collected_clock a x r m c (Ok call) = refl
 collected_clock a x r m c (Err k) = refl

@@ -5,7 +5,7 @@ use Rattle.std.proofs.lemmas.Bool.{cases_eq}
 use Rattle.rank_language.specs.Placed as statements
 use Rattle.rank_language.specs.Placed.{barrier, broadcast, reduce}
 use Rattle.rank_machine.specs.Values.{Store}
-use Rattle.rank_machine.specs.Collectives.{barriers, Call, gives, gets, ends, parts, parts_of}
+use Rattle.rank_machine.specs.Collectives.{barriers, CollectiveCall, gives, gets, ends, parts, parts_of}
 use Rattle.rank_machine.specs.States.{State}
 use Rattle.rank_machine.specs.Acts.{takes}
 use Rattle.rank_machine.proofs.Places.{barrier_gets, barrier_other}
@@ -18,14 +18,14 @@ use Rattle.crash_free.proofs.Finishing.{under_of, GaveLast, TookLast, EndedLast}
 use Rattle.crash_free.proofs.Collecting.{Opens, Other, other, other_began, of_checked, has_first, Scene, scene, self_began, known_parts}
 
 -- a barrier's root is 0
-barrier_root : (s : Store) (c : statements.Collective) (call : Call) → IsCall s c call → call.kind ≡ barriers → call.root ≡ 0
+barrier_root : (s : Store) (c : statements.Collective) (call : CollectiveCall) → IsCall s c call → call.kind ≡ barriers → call.root ≡ 0
 barrier_root s barrier call i k = i.items.1
 barrier_root s (broadcast e b) call i k = absurd (let h = sym i.kind ∙ k in cc)
 barrier_root s (reduce f e v p) call i k = absurd (let h = sym i.kind ∙ k in cc)
 
 -- Where rank 0 of a barrier has done all receptions, each other rank has begun the barrier.
 at_zero : (start : ℕ → State) (n : ℕ) (C : List Passed) → IsRun start n C → Opens start n
-    → (k s : ℕ) (call : Call) (store : Store) (before later : History) → (n ≡ 1 → ⊥) → s < n → (s ≡ 0 → ⊥)
+    → (k s : ℕ) (call : CollectiveCall) (store : Store) (before later : History) → (n ≡ 1 → ⊥) → s < n → (s ≡ 0 → ⊥)
     → call.kind ≡ barriers → call.ordinal ≡ k → parts_of store call ≡ parts barriers 0 n 0 → history C 0 ≡ before ++ later
     → IsUnder before store call
     → ((i : ℕ) → i + 1 < length (parts barriers 0 n 0) → ((j d : ℕ) → slice_get (parts barriers 0 n 0) j ≡ Some (gives d) → i < j) → i < store.done)
@@ -40,7 +40,7 @@ at_zero start n C w o k s call store before later ne l nz kind ord ps whole u fa
 pub barrier_law : (start : ℕ → State) (n : ℕ) (C : List Passed) → IsRun start n C → Opens start n → BarrierLaw start n C
 barrier_law start n C w o = λ r k call from to l f kind s m. law r k call from to l f kind s m (scene start n C o r k call from to l f)
   where
-    law : (r k : ℕ) (call : Call) (from to : State) → r < n → Finished (start r) (history C r) k call from to → call.kind ≡ barriers
+    law : (r k : ℕ) (call : CollectiveCall) (from to : State) → r < n → Finished (start r) (history C r) k call from to → call.kind ≡ barriers
         → (s : ℕ) → s < n → Scene start n C r k call from to → BeganBarrier (start s) (history C s) k
     law r k call from to l f kind s m z = by_self (cases_eq r s)
       where

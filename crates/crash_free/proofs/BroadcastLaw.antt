@@ -7,7 +7,7 @@ use Rattle.std.proofs.lemmas.List.{append-nil}
 use Rattle.rank_language.specs.Placed as statements
 use Rattle.rank_language.specs.Placed.{Placed, Buffer, into_variable, into_array, barrier, broadcast, reduce}
 use Rattle.rank_machine.specs.Values.{Store}
-use Rattle.rank_machine.specs.Collectives.{broadcasts, Call, given, contents, parts, parts_of, counted}
+use Rattle.rank_machine.specs.Collectives.{broadcasts, CollectiveCall, given, contents, parts, parts_of, counted}
 use Rattle.rank_machine.specs.States.{State}
 use Rattle.rank_machine.specs.Acts.{takes, written, overwritten}
 use Rattle.rank_machine.proofs.CollectiveParts.{slice_set-same, drop_all}
@@ -28,18 +28,18 @@ written_same (into_array p) s =
     ap (λ ys. record s { arrays = ys }) (ap (slice_set s.arrays p) all ∙ slice_set-same s.arrays p [])
 
 -- of a broadcast that a rank finished: the items that the root gave, and that they are in the buffer
-abbrev Delivered : (ℕ → State) → List Passed → ℕ → ℕ → Call → Store → Option statements.Collective → Store → Type 0
+abbrev Delivered : (ℕ → State) → List Passed → ℕ → ℕ → CollectiveCall → Store → Option statements.Collective → Store → Type 0
 Delivered start C n k call s c s' =
     (call.root < n)
     × (items : List ℤ) × BeganBroadcast (start call.root) (history C call.root) k call.root items
     × Got s c items s'
 
 -- how a rank finished
-abbrev How : Store → statements.Collective → Call → History → Store → Type 0
+abbrev How : Store → statements.Collective → CollectiveCall → History → Store → Type 0
 How s c call later s' = GaveLast s call s' ⊎ (TookLast s c call later s' ⊎ EndedLast s c call s')
 
 -- the root finished
-as_root : (start : ℕ → State) (C : List Passed) (n r k : ℕ) (call : Call) (from to : State) (e : Placed) (b : Buffer)
+as_root : (start : ℕ → State) (C : List Passed) (n r k : ℕ) (call : CollectiveCall) (from to : State) (e : Placed) (b : Buffer)
     → Finished (start r) (history C r) k call from to → call.kind ≡ broadcasts → call.root < n
     → r ≡ call.root → from.store.rank ≡ r → call.items ≡ given from.store call.root b → to.store ≡ counted from.store
     → Delivered start C n k call from.store (Some (broadcast e b)) to.store
@@ -50,7 +50,7 @@ as_root start C n r k call from to e b f kind below same rank items after =
     (below, call.items, (call, began, kind, refl, refl), put)
 
 -- with the buffer at hand
-delivered : (start : ℕ → State) (n : ℕ) (C : List Passed) → IsRun start n C → Opens start n → (r k : ℕ) (call : Call) (from to : State) → r < n
+delivered : (start : ℕ → State) (n : ℕ) (C : List Passed) → IsRun start n C → Opens start n → (r k : ℕ) (call : CollectiveCall) (from to : State) → r < n
     → Finished (start r) (history C r) k call from to → call.kind ≡ broadcasts → (z : Scene start n C r k call from to)
     → (e : Placed) (b : Buffer) → IsCall from.store (broadcast e b) call → How from.store (broadcast e b) call z.later to.store
     → Delivered start C n k call from.store (Some (broadcast e b)) to.store
@@ -84,7 +84,7 @@ delivered start n C w o r k call from to l f kind z e b i h = by_how h
         as_root start C n r k call from to e b f kind below same z.rank i.items (sym after)
 
 -- of the collective that stood
-by_statement : (start : ℕ → State) (n : ℕ) (C : List Passed) → IsRun start n C → Opens start n → (r k : ℕ) (call : Call) (from to : State) → r < n
+by_statement : (start : ℕ → State) (n : ℕ) (C : List Passed) → IsRun start n C → Opens start n → (r k : ℕ) (call : CollectiveCall) (from to : State) → r < n
     → Finished (start r) (history C r) k call from to → call.kind ≡ broadcasts → (z : Scene start n C r k call from to)
     → (c : statements.Collective) → IsCall from.store c call → How from.store c call z.later to.store
     → Delivered start C n k call from.store (Some c) to.store

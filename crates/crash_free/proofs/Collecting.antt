@@ -6,7 +6,7 @@ use Rattle.rank_language.specs.Placed as statements
 use Rattle.rank_language.specs.Block.{Block}
 use Rattle.rank_language.specs.Program.{ProgramValue}
 use Rattle.rank_machine.specs.Values.{Store}
-use Rattle.rank_machine.specs.Collectives.{Kind, Call, called, parts, parts_of, given_by}
+use Rattle.rank_machine.specs.Collectives.{CollectiveKind, CollectiveCall, called, parts, parts_of, given_by}
 use Rattle.rank_machine.specs.States.{State, opening}
 use Rattle.rank_machine.specs.Acts.{Message, Act, takes}
 use Rattle.rank_machine.proofs.Calls.{IsCall, is_call, Agrees, agreed}
@@ -36,20 +36,20 @@ pub moment_sound : (r n : ℕ) (start : State) (h : History) (a : State) → r <
 moment_sound r n start h a l begins m = sound_inners r n m.before m.reached a l (sound_runs r n [] m.before start m.reached l begins m.runs) m.inners
 
 -- the rank that sent a packet which a rank took as one of its call: it stood at that collective too
-pub record Other (start : ℕ → State) (n : ℕ) (C : List Passed) (q r : ℕ) (call : Call) (vs : List ℤ) : Type 0 where
+pub record Other (start : ℕ → State) (n : ℕ) (C : List Passed) (q r : ℕ) (call : CollectiveCall) (vs : List ℤ) : Type 0 where
   pub message : Message
   pub sender : Sender (start q) (history C q) n q r message
   pub agrees : Agrees call sender.gives.call vs
 
 -- there is one for each such packet
-pub other : (start : ℕ → State) (n : ℕ) (C : List Passed) → IsRun start n C → Opens start n → (q r j : ℕ) (m : Message) (call : Call) (vs : List ℤ)
+pub other : (start : ℕ → State) (n : ℕ) (C : List Passed) → IsRun start n C → Opens start n → (q r j : ℕ) (m : Message) (call : CollectiveCall) (vs : List ℤ)
     → q < n → Has (history C r) (takes q j, Some m) → m.context ≡ Collective → given_by call m.items ≡ Ok vs → Other start n C q r call vs
 other start n C w o q r j m call vs l h c g =
     let s = sender start n C w q r j m l (o q l) (taken_there C r q j m h) c in
     record { message = m; sender = s; agrees = agreed call s.gives.call vs (sym (ap (given_by call) s.gives.given) ∙ g) }
 
 -- so it has begun it
-pub other_began : (start : ℕ → State) (n : ℕ) (C : List Passed) (q r k : ℕ) (call : Call) (vs : List ℤ) → call.ordinal ≡ k
+pub other_began : (start : ℕ → State) (n : ℕ) (C : List Passed) (q r k : ℕ) (call : CollectiveCall) (vs : List ℤ) → call.ordinal ≡ k
     → (x : Other start n C q r call vs) → Began (start q) (history C q) k x.sender.gives.call
 other_began start n C q r k call vs e x =
     let g = x.sender.gives in
@@ -63,7 +63,7 @@ other_began start n C q r k call vs e x =
 
 -- from what a rank has checked
 pub of_checked : (start : ℕ → State) (n : ℕ) (C : List Passed) → IsRun start n C → Opens start n
-    → (q r : ℕ) (before later : History) (call : Call) (g : List ℤ) (i : ℕ) → q < n → history C r ≡ before ++ later
+    → (q r : ℕ) (before later : History) (call : CollectiveCall) (g : List ℤ) (i : ℕ) → q < n → history C r ≡ before ++ later
     → (x : Checked before call g i q) → Other start n C q r call x.items
 of_checked start n C w o q r before later call g i l whole x =
     let took : Act × Option Message = (takes q x.place, Some x.message) in
@@ -79,7 +79,7 @@ has_first h before later more x e f = subst (λ z. Has z x) (sym (e ∙ ap (λ z
     seam (y ∷ before) = let a = seam before in (suc a.0, a.1)
 
 -- all that holds where a rank finished
-pub record Scene (start : ℕ → State) (n : ℕ) (C : List Passed) (r k : ℕ) (call : Call) (from to : State) : Type 0 where
+pub record Scene (start : ℕ → State) (n : ℕ) (C : List Passed) (r k : ℕ) (call : CollectiveCall) (from to : State) : Type 0 where
   pub before : History
   pub later : History
   pub whole : history C r ≡ before ++ later
@@ -94,7 +94,7 @@ pub record Scene (start : ℕ → State) (n : ℕ) (C : List Passed) (r k : ℕ)
   pub finishing : Finishing from.store collective call later to.store
 
 -- it holds there
-pub scene : (start : ℕ → State) (n : ℕ) (C : List Passed) → Opens start n → (r k : ℕ) (call : Call) (from to : State) → r < n
+pub scene : (start : ℕ → State) (n : ℕ) (C : List Passed) → Opens start n → (r k : ℕ) (call : CollectiveCall) (from to : State) → r < n
     → Finished (start r) (history C r) k call from to → Scene start n C r k call from to
 scene start n C o r k call from to l f =
     let m = f.went.moment in
@@ -120,11 +120,11 @@ scene start n C o r k call from to l f =
     }
 
 -- who finished had begun
-pub self_began : (start : ℕ → State) (C : List Passed) (r k : ℕ) (call : Call) (from to : State)
+pub self_began : (start : ℕ → State) (C : List Passed) (r k : ℕ) (call : CollectiveCall) (from to : State)
     → Finished (start r) (history C r) k call from to → Began (start r) (history C r) k call
 self_began start C r k call from to f = record { from = from; to = to; went = f.went; stood = f.stood; ordinal = f.ordinal }
 
 -- the parts of a call, where kind, root, size and rank are known
-pub known_parts : (s : Store) (call : Call) (kind : Kind) (root n r : ℕ) → call.kind ≡ kind → call.root ≡ root → s.size ≡ n → s.rank ≡ r
+pub known_parts : (s : Store) (call : CollectiveCall) (kind : CollectiveKind) (root n r : ℕ) → call.kind ≡ kind → call.root ≡ root → s.size ≡ n → s.rank ≡ r
     → parts_of s call ≡ parts kind root n r
 known_parts s call kind root n r a b d e = rw (a, b, d, e) refl

@@ -7,7 +7,7 @@ use Rattle.rank_language.specs.Placed.{barrier, broadcast, reduce, collect}
 use Rattle.rank_language.specs.Block.{Block, plain}
 use Rattle.rank_machine.specs.declared.fault.MachineFault.{MachineFault}
 use Rattle.rank_machine.specs.Values.{Store, Valued}
-use Rattle.rank_machine.specs.Collectives.{Call, called, gets, parts_of, is_last, counted, unfaulted}
+use Rattle.rank_machine.specs.Collectives.{CollectiveCall, called, gets, parts_of, is_last, counted, unfaulted}
 use Rattle.rank_machine.specs.States.{State, inner, inner_of}
 use Rattle.rank_machine.specs.Acts.{Message, Act, Makes, next, written, with_gathered}
 use Rattle.rank_machine.proofs.Calls.{is_call, called_same}
@@ -25,7 +25,7 @@ IsFaulted None = ⊥
 IsFaulted (Some k) = Unit {0}
 
 -- after a step from where a collective stood: it is finished, or it stands as before, or it faulted
-abbrev pub AfterCall : State → Call → State → Type 0
+abbrev pub AfterCall : State → CollectiveCall → State → Type 0
 AfterCall a call b =
     (b.store.finished ≡ a.store.finished + 1)
     ⊎ ((b.store.finished ≡ a.store.finished) × ((call_in b ≡ Some call) ⊎ IsFaulted b.fault))
@@ -33,10 +33,10 @@ AfterCall a call b =
 -- after a step from anywhere
 abbrev pub Effect : State → State → Type 0
 Effect a b =
-    ((b.store.finished ≡ a.store.finished) × (call_in a ≡ None)) ⊎ ((call : Call) × (call_in a ≡ Some call) × AfterCall a call b)
+    ((b.store.finished ≡ a.store.finished) × (call_in a ≡ None)) ⊎ ((call : CollectiveCall) × (call_in a ≡ Some call) × AfterCall a call b)
 
 -- after a part, which may be the last
-part_effect : (s s' : Store) (c : statements.Collective) (t : Block) (call : Call) (b : State) → is_last s' call ≡ is_last s call
+part_effect : (s s' : Store) (c : statements.Collective) (t : Block) (call : CollectiveCall) (b : State) → is_last s' call ≡ is_last s call
     → s'.finished ≡ s.finished
     → ((s.done + 1 ≡ length (parts_of s call) → ⊥) → called (record s' { done = s'.done + 1 }) c ≡ Ok call)
     → b ≡ gone s s' c t call → AfterCall (standing s c t) call b
@@ -54,7 +54,7 @@ part_effect s s' c t call b same count more e = by_last (cases_eq (s.done + 1) (
         inr (ap (λ z. z.store.finished) (e ∙ all) ∙ count, inl (ap call_in (e ∙ all) ∙ ap unfaulted (more ne)))
 
 -- after a reception of a collective
-took_effect : (s : Store) (c : statements.Collective) (t : Block) (call : Call) (act : Act) (m : Option Message) (b : State) (h : History)
+took_effect : (s : Store) (c : statements.Collective) (t : Block) (call : CollectiveCall) (act : Act) (m : Option Message) (b : State) (h : History)
     → 0 < s.size → called s c ≡ Ok call → IsUnder h s call → Took s c t call act m b → AfterCall (standing s c t) call b
 took_effect s barrier t call act m b h z e u o =
     part_effect s s barrier t call b refl refl (λ ne. called_same s (s.done + 1) s.gathered barrier ∙ e) o.after
@@ -68,7 +68,7 @@ took_effect s (reduce f x v p) t call act m b h z e u o =
     (λ ne. called_same s (s.done + 1) (s.gathered ++ o.items) (reduce f x v p) ∙ e) o.after
 
 -- after any act of a collective
-outcome_effect : (s : Store) (c : statements.Collective) (t : Block) (call : Call) (act : Act) (m : Option Message) (b : State) (h : History)
+outcome_effect : (s : Store) (c : statements.Collective) (t : Block) (call : CollectiveCall) (act : Act) (m : Option Message) (b : State) (h : History)
     → 0 < s.size → called s c ≡ Ok call → IsUnder h s call → Outcome s c t call act m b → AfterCall (standing s c t) call b
 outcome_effect s c t call act m b h z e u (inl o) =
     part_effect s s c t call b refl refl (λ ne. called_same s (s.done + 1) s.gathered c ∙ e) o.after
@@ -77,7 +77,7 @@ outcome_effect s c t call act m b h z e u (inr (inr o)) =
     inr (ap (λ x. x.store.finished) o.after, inr (subst (λ x. IsFaulted x.fault) (sym o.after) tt))
 
 -- after an inner step of a collective
-inner_call : (s : Store) (c : statements.Collective) (t : Block) (b : State) → (v : Valued Call) → called s c ≡ v
+inner_call : (s : Store) (c : statements.Collective) (t : Block) (b : State) → (v : Valued CollectiveCall) → called s c ≡ v
     → inner (standing s c t) ≡ Some b → Effect (standing s c t) b
 inner_call s c t b (Ok call) e i =
     let o = ended_so s c t call e b i in
@@ -110,7 +110,7 @@ own_effect a b e = by_fault a.fault refl
 
 -- after an act of a collective
 act_call : (s : Store) (c : statements.Collective) (t : Block) (act : Act) (m : Option Message) (h : History) → 0 < s.size
-    → (v : Valued Call) → called s c ≡ v → IsProgress h s v → Makes (standing s c t) act m → Effect (standing s c t) (next (standing s c t) act m)
+    → (v : Valued CollectiveCall) → called s c ≡ v → IsProgress h s v → Makes (standing s c t) act m → Effect (standing s c t) (next (standing s c t) act m)
 act_call s c t act m h z (Ok call) e u f =
     inr (call, ap unfaulted e, outcome_effect s c t call act m (next (standing s c t) act m) h z e u (made s c t call e act m f))
 act_call s c t act m h z (Err k) e u f = absurd (no_call s c t act m k e f)

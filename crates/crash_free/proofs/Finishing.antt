@@ -8,7 +8,7 @@ use Rattle.rank_language.specs.Placed.{barrier, broadcast, reduce, collect}
 use Rattle.rank_language.specs.Block.{Block, plain}
 use Rattle.rank_machine.specs.declared.fault.MachineFault.{MachineFault}
 use Rattle.rank_machine.specs.Values.{Store}
-use Rattle.rank_machine.specs.Collectives.{Call, called, gives, gets, ends, parts_of, is_last, counted, part_done, given_by, ended, unfaulted}
+use Rattle.rank_machine.specs.Collectives.{CollectiveCall, called, gives, gets, ends, parts_of, is_last, counted, part_done, given_by, ended, unfaulted}
 use Rattle.rank_machine.specs.States.{State, inner}
 use Rattle.rank_machine.specs.Acts.{Message, Act, takes, kept}
 use Rattle.rank_machine.proofs.Outcomes.{standing, Gave, Took, Outcome, made, unfaulted_ok, ended_so}
@@ -20,14 +20,14 @@ use Rattle.crash_free.proofs.OtherSteps.{split, stands_there, written_keeps}
 use Rattle.crash_free.proofs.Sound.{IsUnder, IsWay, IsProgress, Sound}
 
 -- a state that stands at a collective
-pub record Stood (a : State) (call : Call) : Type 0 where
+pub record Stood (a : State) (call : CollectiveCall) : Type 0 where
   pub collective : statements.Collective
   pub rest : Block
   pub stands : a ≡ standing a.store collective rest
   pub valid : called a.store collective ≡ Ok call
 
 -- where a call stands, a collective does, and no fault
-pub stood : (a : State) (call : Call) → call_in a ≡ Some call → Stood a call
+pub stood : (a : State) (call : CollectiveCall) → call_in a ≡ Some call → Stood a call
 stood a call e = by_fault a.fault refl
   where
     by_first : a.fault ≡ None → call_now a.store (first_collective a.rest) ≡ Some call
@@ -49,25 +49,25 @@ stood a call e = by_fault a.fault refl
         absurd (let g : None ≡ Some call = subst (λ k. call_unless k (call_now a.store (first_collective a.rest)) ≡ Some call) q e in cc)
 
 -- and the other way
-pub call_there : (a : State) (call : Call) (c : statements.Collective) (r : Block) → a ≡ standing a.store c r → called a.store c ≡ Ok call
+pub call_there : (a : State) (call : CollectiveCall) (c : statements.Collective) (r : Block) → a ≡ standing a.store c r → called a.store c ≡ Ok call
     → call_in a ≡ Some call
 call_there a call c r e v = ap call_in e ∙ ap unfaulted v
 
 -- what holds of a collective under way
-pub under_of : (r n : ℕ) (h : History) (a : State) (call : Call) (c : statements.Collective) (t : Block) → Sound r n h a → a ≡ standing a.store c t
+pub under_of : (r n : ℕ) (h : History) (a : State) (call : CollectiveCall) (c : statements.Collective) (t : Block) → Sound r n h a → a ≡ standing a.store c t
     → called a.store c ≡ Ok call → IsUnder h a.store call
 under_of r n h a call c t w e v =
     let way : IsWay h a.store (Some c) = subst (IsWay h a.store) (ap (λ z. first_collective z.rest) e) w.way in
     subst (IsProgress h a.store) v way
 
 -- the rank finished by a send
-pub record GaveLast (s : Store) (call : Call) (s' : Store) : Type 0 where
+pub record GaveLast (s : Store) (call : CollectiveCall) (s' : Store) : Type 0 where
   pub dest : ℕ
   pub part : slice_get (parts_of s call) s.done ≡ Some (gives dest)
   pub after : s' ≡ counted s
 
 -- by a reception
-pub record TookLast (s : Store) (c : statements.Collective) (call : Call) (later : History) (s' : Store) : Type 0 where
+pub record TookLast (s : Store) (c : statements.Collective) (call : CollectiveCall) (later : History) (s' : Store) : Type 0 where
   pub source : ℕ
   pub place : ℕ
   pub message : Message
@@ -80,21 +80,21 @@ pub record TookLast (s : Store) (c : statements.Collective) (call : Call) (later
   pub after : s' ≡ counted (kept c items s)
 
 -- or by a step of its own
-pub record EndedLast (s : Store) (c : statements.Collective) (call : Call) (s' : Store) : Type 0 where
+pub record EndedLast (s : Store) (c : statements.Collective) (call : CollectiveCall) (s' : Store) : Type 0 where
   pub part : slice_get (parts_of s call) s.done ≡ Some ends
   pub folded : ended s c call ≡ Ok s'
 
 -- which was the last part
-pub record Finishing (s : Store) (c : statements.Collective) (call : Call) (later : History) (s' : Store) : Type 0 where
+pub record Finishing (s : Store) (c : statements.Collective) (call : CollectiveCall) (later : History) (s' : Store) : Type 0 where
   pub last : s.done + 1 ≡ length (parts_of s call)
   pub how : GaveLast s call s' ⊎ (TookLast s c call later s' ⊎ EndedLast s c call s')
 
 -- what the last part stores
-passed_last : (s' : Store) (call : Call) → is_last s' call ≡ true → part_done s' call ≡ counted s'
+passed_last : (s' : Store) (call : CollectiveCall) → is_last s' call ≡ true → part_done s' call ≡ counted s'
 passed_last s' call e = rw e refl
 
 -- no other part counts
-passed_on : (s' : Store) (call : Call) → is_last s' call ≡ false → (part_done s' call).finished ≡ s'.finished
+passed_on : (s' : Store) (call : CollectiveCall) → is_last s' call ≡ false → (part_done s' call).finished ≡ s'.finished
 passed_on s' call e = rw e refl
 
 -- what a collective keeps of a packet leaves what is counted, but for what a reduce gathers
@@ -109,7 +109,7 @@ not_next : (n : ℕ) → n ≡ n + 1 → ⊥
 not_next n e = omega (arith, e)
 
 -- a send that finished was the last part
-gave_last : (s : Store) (c : statements.Collective) (t : Block) (call : Call) (act : Act) (m : Option Message) (more : History) (to : State)
+gave_last : (s : Store) (c : statements.Collective) (t : Block) (call : CollectiveCall) (act : Act) (m : Option Message) (more : History) (to : State)
     → s.done < length (parts_of s call) → to.store.finished ≡ s.finished + 1 → Gave s c t call act m to → Finishing s c call ((act, m) ∷ more) to.store
 gave_last s c t call act m more to w f o = by_last (cases_eq (s.done + 1) (length (parts_of s call)))
   where
@@ -123,7 +123,7 @@ gave_last s c t call act m more to w f o = by_last (cases_eq (s.done + 1) (lengt
         absurd (not_next s.finished (sym (ap (λ z. z.store.finished) o.after ∙ passed_on s call not_yet) ∙ f))
 
 -- a reception that finished was the last part
-took_it : (s : Store) (c : statements.Collective) (t : Block) (call : Call) (act : Act) (m : Option Message) (more : History) (to : State)
+took_it : (s : Store) (c : statements.Collective) (t : Block) (call : CollectiveCall) (act : Act) (m : Option Message) (more : History) (to : State)
     → s.done < length (parts_of s call) → to.store.finished ≡ s.finished + 1 → Took s c t call act m to → Finishing s c call ((act, m) ∷ more) to.store
 took_it s c t call act m more to w f o = by_last (cases_eq (s.done + 1) (length (parts_of s call)))
   where
@@ -157,14 +157,14 @@ took_it s c t call act m more to w f o = by_last (cases_eq (s.done + 1) (length 
         absurd (not_next s.finished (sym (ap (λ z. z.store.finished) o.after ∙ passed_on (kept c o.items s) call not_yet ∙ keeps.3) ∙ f))
 
 -- so was any act that finished
-by_outcome : (s : Store) (c : statements.Collective) (t : Block) (call : Call) (act : Act) (m : Option Message) (more : History) (to : State)
+by_outcome : (s : Store) (c : statements.Collective) (t : Block) (call : CollectiveCall) (act : Act) (m : Option Message) (more : History) (to : State)
     → s.done < length (parts_of s call) → to.store.finished ≡ s.finished + 1 → Outcome s c t call act m to → Finishing s c call ((act, m) ∷ more) to.store
 by_outcome s c t call act m more to w f (inl o) = gave_last s c t call act m more to w f o
 by_outcome s c t call act m more to w f (inr (inl o)) = took_it s c t call act m more to w f o
 by_outcome s c t call act m more to w f (inr (inr o)) = absurd (not_next s.finished (sym (ap (λ z. z.store.finished) o.after) ∙ f))
 
 -- and any step
-by_step : (s : Store) (c : statements.Collective) (t : Block) (call : Call) (later : History) (to : State) → called s c ≡ Ok call
+by_step : (s : Store) (c : statements.Collective) (t : Block) (call : CollectiveCall) (later : History) (to : State) → called s c ≡ Ok call
     → s.done < length (parts_of s call) → to.store.finished ≡ s.finished + 1
     → (inner (standing s c t) ≡ Some to) ⊎ IsFirst (standing s c t) later to → Finishing s c call later to.store
 by_step s c t call later to e w f (inl i) =
@@ -179,7 +179,7 @@ by_step s c t call (x ∷ later) to e w f (inr i) =
     by_outcome s c t call x.0 x.1 later to w f (subst (Outcome s c t call x.0 x.1) (sym i.1) (made s c t call e x.0 x.1 i.0))
 
 -- of any state that stands at a collective
-pub finishing : (a : State) (call : Call) (later : History) (to : State) (c : statements.Collective) (t : Block)
+pub finishing : (a : State) (call : CollectiveCall) (later : History) (to : State) (c : statements.Collective) (t : Block)
     → a ≡ standing a.store c t → called a.store c ≡ Ok call → a.store.done < length (parts_of a.store call)
     → to.store.finished ≡ a.store.finished + 1 → (inner a ≡ Some to) ⊎ IsFirst a later to → Finishing a.store c call later to.store
 finishing a call later to c t e v w f step =

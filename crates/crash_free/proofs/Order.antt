@@ -1,7 +1,7 @@
 -- The moments of a rank stand in order. So the kth collective that it began is one.
 use Rattle.std.proofs.Common.{◌≡◌, ℕ, ◌+◌, ◌<◌, ◌≤◌, List, [], ◌∷◌, ◌++◌, Option, Some, None, refl, sym, ap, subst, ◌∙◌, arith, ◌⊎◌, inl, inr}
 use Rattle.rank_machine.specs.declared.fault.MachineFault.{MachineFault}
-use Rattle.rank_machine.specs.Collectives.{Call}
+use Rattle.rank_machine.specs.Collectives.{CollectiveCall}
 use Rattle.rank_machine.specs.States.{State, Inners, here, on, inner, inner_of}
 use Rattle.rank_machine.specs.Acts.{Message, Act, Makes, Runs, next}
 use Rattle.rank_machine.proofs.Calls.{is_call}
@@ -51,15 +51,15 @@ order s a b h l l' (act x f w) (own e v) = absurd (let n = still s x.0 x.1 f in 
 order s a b h l l' (act {l = g} x f w) (act y k v) = order (next s x.0 x.1) a b g l l' w v
 
 -- a collective of number k stood as c and was gone on with: it is finished, or it stands still as c, or the rank has faulted
-Held : ℕ → Call → State → Type 0
+Held : ℕ → CollectiveCall → State → Type 0
 Held k c b = (k ≤ b.store.finished) ⊎ ((call_in b ≡ Some c) ⊎ IsFaulted b.fault)
 
 -- the collective that stands is the next one
-pub stood_ordinal : (a : State) (c : Call) → 0 < a.store.size → call_in a ≡ Some c → c.ordinal ≡ a.store.finished + 1
+pub stood_ordinal : (a : State) (c : CollectiveCall) → 0 < a.store.size → call_in a ≡ Some c → c.ordinal ≡ a.store.finished + 1
 stood_ordinal a c z e = let s = stood a c e in (is_call a.store s.collective c z s.valid).ordinal
 
 -- a step from where it stands, as this call
-held_call : (k : ℕ) (c call : Call) (a b : State) → call_in a ≡ Some c → call_in a ≡ Some call → c.ordinal ≡ a.store.finished + 1 → c.ordinal ≡ k
+held_call : (k : ℕ) (c call : CollectiveCall) (a b : State) → call_in a ≡ Some c → call_in a ≡ Some call → c.ordinal ≡ a.store.finished + 1 → c.ordinal ≡ k
     → AfterCall a call b → Held k c b
 unfolding Held
 held_call k c call a b e f o g (inl h) = inl (omega (arith, o, g, h))
@@ -70,7 +70,7 @@ held_call k c call a b e f o g (inr h) = more h.1
     more (inr i) = inr (inr i)
 
 -- any step from there
-held_first : (k : ℕ) (c : Call) (a b : State) → call_in a ≡ Some c → c.ordinal ≡ a.store.finished + 1 → c.ordinal ≡ k → Effect a b → Held k c b
+held_first : (k : ℕ) (c : CollectiveCall) (a b : State) → call_in a ≡ Some c → c.ordinal ≡ a.store.finished + 1 → c.ordinal ≡ k → Effect a b → Held k c b
 held_first k c a b e o g (inl h) = absurd (let q : Some c ≡ None = sym e ∙ h.1 in cc)
 held_first k c a b e o g (inr h) = held_call k c h.0 a b e h.1 o g h.2
 
@@ -84,7 +84,7 @@ never_less k a b l (inr h) = by_call h.2
     by_call (inr e) = let f = e.0 in omega (arith, l, f)
 
 -- a step of a rank that hasn't faulted
-held_step : (k : ℕ) (c : Call) (a b : State) → 0 < a.store.size → c.ordinal ≡ k → (IsFaulted a.fault → ⊥) → Held k c a → Effect a b → Held k c b
+held_step : (k : ℕ) (c : CollectiveCall) (a b : State) → 0 < a.store.size → c.ordinal ≡ k → (IsFaulted a.fault → ⊥) → Held k c a → Effect a b → Held k c b
 unfolding Held
 held_step k c a b z g nf (inl l) e = inl (never_less k a b l e)
 held_step k c a b z g nf (inr (inl h)) e = held_first k c a b h (stood_ordinal a c z h) g e
@@ -111,7 +111,7 @@ pub positive : (r n : ℕ) (h : History) (a : State) → r < n → Sound r n h a
 positive r n h a l w = let e = w.size in omega (arith, l, e)
 
 -- along any way
-held_way : (r n k : ℕ) (c : Call) (h : History) (a b : State) (l l' : History) → r < n → c.ordinal ≡ k → Sound r n h a → Held k c a
+held_way : (r n k : ℕ) (c : CollectiveCall) (h : History) (a b : State) (l l' : History) → r < n → c.ordinal ≡ k → Sound r n h a → Held k c a
     → Way a l b l' → Held k c b
 held_way r n k c h a b l l' lt g w x stay = x
 held_way r n k c h a b l l' lt g w x (own {b = d} e v) =
@@ -122,7 +122,7 @@ held_way r n k c h a b l l' lt g w x (act {l = more} y e v) =
     (held_step k c a (next a y.0 y.1) (positive r n h a lt w) g (no_act a y.0 y.1 e) x (made_effect r n h a y.0 y.1 lt w e)) v
 
 -- where a collective of number k stands once and stands again, it is the same
-same_call : (r n k : ℕ) (c d : Call) (h : History) (a b : State) (l l' : History) → r < n → c.ordinal ≡ k → d.ordinal ≡ k → Sound r n h a
+same_call : (r n k : ℕ) (c d : CollectiveCall) (h : History) (a b : State) (l l' : History) → r < n → c.ordinal ≡ k → d.ordinal ≡ k → Sound r n h a
     → call_in a ≡ Some c → call_in b ≡ Some d → 0 < b.store.size → Way a l b l' → c ≡ d
 unfolding Held
 same_call r n k c d h a b l l' lt g g' w e f z v = at (held_way r n k c h a b l l' lt g w (inr (inl e)) v)
@@ -141,7 +141,7 @@ same_call r n k c d h a b l l' lt g g' w e f z v = at (held_way r n k c h a b l 
 pub one_call : (start : ℕ → State) (n : ℕ) (C : List Passed) → Opens start n → OneCall start n C
 one_call start n C o = λ r k c d lt x y. by_began r k c d lt x y
   where
-    by_began : (r k : ℕ) (c d : Call) → r < n → Began (start r) (history C r) k c → Began (start r) (history C r) k d → c ≡ d
+    by_began : (r k : ℕ) (c d : CollectiveCall) → r < n → Began (start r) (history C r) k c → Began (start r) (history C r) k d → c ≡ d
     by_began r k c d lt x y = by_order (order (start r) x.from y.from (history C r) xs ys way_x way_y)
       where
         xs : History

@@ -7,7 +7,7 @@ use Rattle.rank_language.specs.Placed as statements
 use Rattle.rank_text.specs.declared.grammar.token.Reduction.{Reduction}
 use Rattle.rank_language.specs.Placed.{Placed, barrier, broadcast, reduce}
 use Rattle.rank_machine.specs.Values.{Store, Valued}
-use Rattle.rank_machine.specs.Collectives.{Kind, barriers, broadcasts, folds, Call, Part, gives, gets, ends, parts, parts_of, counted, ended, folded, with_at}
+use Rattle.rank_machine.specs.Collectives.{CollectiveKind, barriers, broadcasts, folds, CollectiveCall, Part, gives, gets, ends, parts, parts_of, counted, ended, folded, with_at}
 use Rattle.rank_machine.specs.States.{State}
 use Rattle.rank_machine.proofs.CollectiveParts.{within_at, below_at, above_before, with_at-length, with_at-cases}
 use Rattle.rank_machine.proofs.Places.{reduce_gets, reduce_length, reduce_last}
@@ -27,7 +27,7 @@ Reduced start C n r k f s c s' =
 
 -- the value of another rank
 value_of : (start : ℕ → State) (n : ℕ) (C : List Passed) → IsRun start n C → Opens start n
-    → (r k q i : ℕ) (v : ℤ) (f : Reduction) (call : Call) (s : Store) (before later : History) → r < n → q < n
+    → (r k q i : ℕ) (v : ℤ) (f : Reduction) (call : CollectiveCall) (s : Store) (before later : History) → r < n → q < n
     → call.kind ≡ folds f → call.root ≡ r → call.ordinal ≡ k → history C r ≡ before ++ later
     → (x : Checked before call s.gathered i q) → slice_get s.gathered i ≡ Some v → BeganReduce (start q) (history C q) k f r v
 value_of start n C w o r k q i v f call s before later l m kind root ord whole x e =
@@ -35,7 +35,7 @@ value_of start n C w o r k q i v f call s before later l m kind root ord whole x
     let began = other_began start n C q r k call x.items ord y in
     (y.sender.gives.call, began, y.agrees.kind ∙ kind, y.agrees.root ∙ root, y.agrees.items ∙ one_value call.kind kind x.stored)
   where
-    one_value : (kd : Kind) → kd ≡ folds f → IsStored kd s.gathered i x.items → x.items ≡ v ∷ []
+    one_value : (kd : CollectiveKind) → kd ≡ folds f → IsStored kd s.gathered i x.items → x.items ≡ v ∷ []
     one_value barriers h st = absurd cc
     one_value broadcasts h st = absurd cc
     one_value (folds g) h st =
@@ -44,14 +44,14 @@ value_of start n C w o r k q i v f call s before later l m kind root ord whole x
         st.1 ∙ ap (λ y. y ∷ []) sv
 
 -- a reduce has gathered a value with each part
-count_of : (kd : Kind) (f : Reduction) (g : List ℤ) (d : ℕ) → kd ≡ folds f → IsCount kd g d → length g ≡ d
+count_of : (kd : CollectiveKind) (f : Reduction) (g : List ℤ) (d : ℕ) → kd ≡ folds f → IsCount kd g d → length g ≡ d
 count_of barriers f g d e c = absurd cc
 count_of broadcasts f g d e c = absurd cc
 count_of (folds f') f g d e c = c
 
 -- its own step, after a part for each other rank
 reduced : (start : ℕ → State) (n : ℕ) (C : List Passed) → IsRun start n C → Opens start n
-    → (r k : ℕ) (call : Call) (f : Reduction) (from to : State) → r < n → Finished (start r) (history C r) k call from to
+    → (r k : ℕ) (call : CollectiveCall) (f : Reduction) (from to : State) → r < n → Finished (start r) (history C r) k call from to
     → call.kind ≡ folds f → call.root ≡ r → (z : Scene start n C r k call from to)
     → (e v : Placed) (p : ℕ) → IsCall from.store (reduce f e v p) call → ended from.store (reduce f e v p) call ≡ Ok to.store
     → from.store.done + 1 ≡ n → Reduced start C n r k f from.store (Some (reduce f e v p)) to.store
@@ -113,7 +113,7 @@ reduced start n C w o r k call f from to l fin kind root z e v p i fold last =
 
 -- of the collective that stood
 by_statement : (start : ℕ → State) (n : ℕ) (C : List Passed) → IsRun start n C → Opens start n
-    → (r k : ℕ) (call : Call) (f : Reduction) (from to : State) → r < n → Finished (start r) (history C r) k call from to
+    → (r k : ℕ) (call : CollectiveCall) (f : Reduction) (from to : State) → r < n → Finished (start r) (history C r) k call from to
     → call.kind ≡ folds f → call.root ≡ r → (z : Scene start n C r k call from to)
     → (c : statements.Collective) → IsCall from.store c call → ended from.store c call ≡ Ok to.store
     → from.store.done + 1 ≡ n → Reduced start C n r k f from.store (Some c) to.store
@@ -133,7 +133,7 @@ reduce_law start n C w o = λ r k call f from to l fin kind root.
     let at : first_collective from.rest ≡ Some z.collective = ap (λ a. first_collective a.rest) z.stands in
     subst (λ b. Reduced start C n r k f from.store b to.store) (sym at) (law r k call f from to l fin kind root z))
   where
-    law : (r k : ℕ) (call : Call) (f : Reduction) (from to : State) → r < n → Finished (start r) (history C r) k call from to
+    law : (r k : ℕ) (call : CollectiveCall) (f : Reduction) (from to : State) → r < n → Finished (start r) (history C r) k call from to
         → call.kind ≡ folds f → call.root ≡ r → (z : Scene start n C r k call from to)
         → Reduced start C n r k f from.store (Some z.collective) to.store
     law r k call f from to l fin kind root z = by_how z.finishing.how

@@ -11,7 +11,7 @@ use Rattle.rank_machine.specs.declared.fault.MachineFault.{MachineFault}
 use Rattle.rank_machine.specs.declared.want.Want.{Want}
 use Rattle.rank_machine.specs.declared.want.Want.TheVariants as want
 use Rattle.rank_machine.specs.Values.{Store, Valued}
-use Rattle.rank_machine.specs.Collectives.{Call, called, header, gives, part_of}
+use Rattle.rank_machine.specs.Collectives.{CollectiveCall, called, header, gives, part_of}
 use Rattle.rank_machine.specs.States.{State, item_value}
 use Rattle.rank_machine.specs.Wants.{want_of, first_payload}
 use Rattle.rank_machine.specs.Acts.{Message, Act, sends, takes, hits, misses, prints, Fits, Makes, Does, Runs, next}
@@ -121,14 +121,14 @@ cut a b (y ∷ before) x later r =
 pub record Giving (a : State) (d : ℕ) (items : List ℤ) : Type 0 where
   pub collective : statements.Collective
   pub rest : Block
-  pub call : Call
+  pub call : CollectiveCall
   pub stands : a ≡ standing a.store collective rest
   pub valid : called a.store collective ≡ Ok call
   pub part : part_of a.store call ≡ gives d
   pub given : items ≡ header call ++ call.items
 
 -- what sends is no reception
-gave_it : (s : Store) (c : statements.Collective) (r : Block) (call : Call) (d t : ℕ) (items : List ℤ) (m : Option Message) (b : State)
+gave_it : (s : Store) (c : statements.Collective) (r : Block) (call : CollectiveCall) (d t : ℕ) (items : List ℤ) (m : Option Message) (b : State)
     → called s c ≡ Ok call → Outcome s c r call (sends d Collective t items) m b → Giving (standing s c r) d items
 gave_it s c r call d t items m b e (inl o) =
     let q = o.sent in
@@ -140,7 +140,7 @@ gave_it s c r call d t items m b e (inr (inr o)) = absurd (let q = o.taken in cc
 
 -- a send of a collective
 giving_call : (s : Store) (c : statements.Collective) (r : Block) (d t : ℕ) (items : List ℤ) (m : Option Message)
-    → (v : Valued Call) → called s c ≡ v → Makes (standing s c r) (sends d Collective t items) m → Giving (standing s c r) d items
+    → (v : Valued CollectiveCall) → called s c ≡ v → Makes (standing s c r) (sends d Collective t items) m → Giving (standing s c r) d items
 giving_call s c r d t items m (Ok call) e f =
     gave_it s c r call d t items m (next (standing s c r) (sends d Collective t items) m) e (made s c r call e (sends d Collective t items) m f)
 giving_call s c r d t items m (Err k) e f = absurd (no_call s c r (sends d Collective t items) m k e f)

@@ -9,7 +9,7 @@ use Rattle.rank_language.specs.Placed.{barrier, broadcast, reduce, collect}
 use Rattle.rank_language.specs.Block.{Block, plain}
 use Rattle.rank_machine.specs.declared.fault.MachineFault.{MachineFault}
 use Rattle.rank_machine.specs.Values.{Store, Valued}
-use Rattle.rank_machine.specs.Collectives.{Kind, barriers, broadcasts, folds, Call, called, gets, parts_of, counted, given_by, ended, folded, with_at}
+use Rattle.rank_machine.specs.Collectives.{CollectiveKind, barriers, broadcasts, folds, CollectiveCall, called, gets, parts_of, counted, given_by, ended, folded, with_at}
 use Rattle.rank_machine.specs.States.{State, Inners, here, on, inner, inner_of}
 use Rattle.rank_machine.specs.Acts.{Message, Act, takes}
 use Rattle.rank_machine.proofs.CollectiveParts.{some_part, longer_at}
@@ -33,13 +33,13 @@ Has-last [] x = (0, refl)
 Has-last (y ∷ h) x = let a = Has-last h x in (suc a.0, a.1)
 
 -- the value of a reduce's packet stands at its part's place among those gathered
-abbrev pub IsStored : Kind → List ℤ → ℕ → List ℤ → Type 0
+abbrev pub IsStored : CollectiveKind → List ℤ → ℕ → List ℤ → Type 0
 IsStored barriers g i vs = Unit {0}
 IsStored broadcasts g i vs = Unit {0}
 IsStored (folds f) g i vs = (v : ℤ) × (vs ≡ v ∷ []) × (slice_get g i ≡ Some v)
 
 -- the part at place i got from q: a packet of this call
-pub record Checked (h : History) (call : Call) (g : List ℤ) (i q : ℕ) : Type 0 where
+pub record Checked (h : History) (call : CollectiveCall) (g : List ℤ) (i q : ℕ) : Type 0 where
   pub place : ℕ
   pub message : Message
   pub items : List ℤ
@@ -49,13 +49,13 @@ pub record Checked (h : History) (call : Call) (g : List ℤ) (i q : ℕ) : Type
   pub stored : IsStored call.kind g i items
 
 -- a reduce gathers a value with each part
-abbrev pub IsCount : Kind → List ℤ → ℕ → Type 0
+abbrev pub IsCount : CollectiveKind → List ℤ → ℕ → Type 0
 IsCount barriers g count = Unit {0}
 IsCount broadcasts g count = Unit {0}
 IsCount (folds f) g count = length g ≡ count
 
 -- a collective under way
-pub record IsUnder (h : History) (s : Store) (call : Call) : Type 0 where
+pub record IsUnder (h : History) (s : Store) (call : CollectiveCall) : Type 0 where
   pub within : s.done < length (parts_of s call)
   pub checked : (i q : ℕ) → i < s.done → slice_get (parts_of s call) i ≡ Some (gets q) → Checked h call s.gathered i q
   pub count : IsCount call.kind s.gathered s.done
@@ -65,7 +65,7 @@ abbrev pub IsNone : Store → Type 0
 IsNone s = (s.done ≡ 0) × (s.gathered ≡ [])
 
 -- this call is under way, or its evaluation faults and none is
-abbrev pub IsProgress : History → Store → Valued Call → Type 0
+abbrev pub IsProgress : History → Store → Valued CollectiveCall → Type 0
 IsProgress h s (Ok call) = IsUnder h s call
 IsProgress h s (Err k) = IsNone s
 
@@ -85,12 +85,12 @@ pub fresh : (h : History) (s : Store) (o : Option statements.Collective) → s.r
 fresh h s None l z = z
 fresh h s (Some c) l z = by_call (called s c)
   where
-    first : (k : Kind) → IsCount k s.gathered s.done
+    first : (k : CollectiveKind) → IsCount k s.gathered s.done
     first barriers = tt
     first broadcasts = tt
     first (folds f) = ap length z.1 ∙ sym z.0
 
-    by_call : (v : Valued Call) → IsProgress h s v
+    by_call : (v : Valued CollectiveCall) → IsProgress h s v
     by_call (Err k) = z
     by_call (Ok call) = record {
       within = rw z.0 (some_part call.kind call.root s.size s.rank l);
@@ -111,7 +111,7 @@ pub closed : (r n : ℕ) (h : History) (s : Store) (b : Block) (f : Option Machi
 closed r n h s b f l er es = record { rank = er; size = es; way = fresh h (counted s) (first_collective b) (omega (arith, l, er, es)) (refl, refl) }
 
 -- the own step of a collective counts it
-pub ended_store : (s : Store) (c : statements.Collective) (call : Call) (s' : Store) → ended s c call ≡ Ok s'
+pub ended_store : (s : Store) (c : statements.Collective) (call : CollectiveCall) (s' : Store) → ended s c call ≡ Ok s'
     → (x : Store) × (s' ≡ counted x) × KeepsCalls s x
 ended_store s barrier call s' e = (s, (let q : counted s ≡ s' = cc in sym q), all_kept s)
 ended_store s (broadcast x b) call s' e = (s, (let q : counted s ≡ s' = cc in sym q), all_kept s)
@@ -123,7 +123,7 @@ ended_store s (reduce f x v p) call s' e =
     (put y.0, sym same, record { rank = refl; size = refl; finished = refl; done = refl; gathered = refl })
 
 -- so none is under way after it
-ended_sound : (r n : ℕ) (h : History) (s : Store) (c : statements.Collective) (t : Block) (call : Call) (b : State)
+ended_sound : (r n : ℕ) (h : History) (s : Store) (c : statements.Collective) (t : Block) (call : CollectiveCall) (b : State)
     → r < n → s.rank ≡ r → s.size ≡ n → Ended s c t call b → Sound r n h b
 ended_sound r n h s c t call b l er es e =
     let x = ended_store s c call e.store e.folded in
@@ -133,7 +133,7 @@ ended_sound r n h s c t call b l er es e =
 
 -- an inner step of a collective
 inner_call : (r n : ℕ) (h : History) (s : Store) (c : statements.Collective) (t : Block) (b : State) → r < n → s.rank ≡ r → s.size ≡ n
-    → (v : Valued Call) → called s c ≡ v → inner (standing s c t) ≡ Some b → Sound r n h b
+    → (v : Valued CollectiveCall) → called s c ≡ v → inner (standing s c t) ≡ Some b → Sound r n h b
 inner_call r n h s c t b l er es (Ok call) e i = ended_sound r n h s c t call b l er es (ended_so s c t call e b i)
 inner_call r n h s c t b l er es (Err k) e i = absurd (let j : None ≡ Some b = rw e at i in cc)
 

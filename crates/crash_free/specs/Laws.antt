@@ -8,7 +8,7 @@ use Rattle.rank_language.specs.Placed.{Collective, barrier, broadcast, reduce}
 use Rattle.rank_language.specs.Block.{Block, done, plain, if_only, if_else, loop}
 use Rattle.rank_machine.specs.declared.fault.MachineFault.{MachineFault}
 use Rattle.rank_machine.specs.Values.{Store}
-use Rattle.rank_machine.specs.Collectives.{barriers, broadcasts, folds, Call, called, counted, folded, unfaulted}
+use Rattle.rank_machine.specs.Collectives.{barriers, broadcasts, folds, CollectiveCall, called, counted, folded, unfaulted}
 use Rattle.rank_machine.specs.States.{State, Inners, inner}
 use Rattle.rank_machine.specs.Acts.{Makes, Runs, next, written}
 use Rattle.crash_free.specs.Runs.{Passed, History, history}
@@ -31,17 +31,17 @@ first_collective (if_else e y o r) = None
 first_collective (loop e y r) = None
 
 -- a collective as it is called now; none if root, value or ordinal faults
-abbrev pub call_now : Store → Option Collective → Option Call
+abbrev pub call_now : Store → Option Collective → Option CollectiveCall
 call_now s None = None
 call_now s (Some c) = unfaulted (called s c)
 
 -- no call stands after a fault
-abbrev pub call_unless : Option MachineFault → Option Call → Option Call
+abbrev pub call_unless : Option MachineFault → Option CollectiveCall → Option CollectiveCall
 call_unless None call = call
 call_unless (Some k) call = None
 
 -- the call of the collective at which a state stands
-abbrev pub call_in : State → Option Call
+abbrev pub call_in : State → Option CollectiveCall
 call_in a = call_unless a.fault (call_now a.store (first_collective a.rest))
 
 -- A moment of a rank that began at this state and has this history: after some of its acts, and
@@ -65,7 +65,7 @@ pub record Went (start : State) (h : History) (a b : State) : Type 0 where
   pub step : (inner a ≡ Some b) ⊎ IsFirst a moment.later b
 
 -- the kth collective that the rank began is this: there it stood, and from there it went on
-pub record Began (start : State) (h : History) (k : ℕ) (call : Call) : Type 0 where
+pub record Began (start : State) (h : History) (k : ℕ) (call : CollectiveCall) : Type 0 where
   pub from : State
   pub to : State
   pub went : Went start h from to
@@ -73,7 +73,7 @@ pub record Began (start : State) (h : History) (k : ℕ) (call : Call) : Type 0 
   pub ordinal : call.ordinal ≡ k
 
 -- the rank's kth collective is this, and it finished it by going from the one state to the other
-pub record Finished (start : State) (h : History) (k : ℕ) (call : Call) (from to : State) : Type 0 where
+pub record Finished (start : State) (h : History) (k : ℕ) (call : CollectiveCall) (from to : State) : Type 0 where
   pub went : Went start h from to
   pub stood : call_in from ≡ Some call
   pub ordinal : call.ordinal ≡ k
@@ -81,19 +81,19 @@ pub record Finished (start : State) (h : History) (k : ℕ) (call : Call) (from 
 
 -- the rank has begun its kth collective, and it is a barrier
 abbrev pub BeganBarrier : State → History → ℕ → Type 0
-BeganBarrier start h k = (call : Call) × Began start h k call × (call.kind ≡ barriers)
+BeganBarrier start h k = (call : CollectiveCall) × Began start h k call × (call.kind ≡ barriers)
 
 -- the rank has begun its kth collective, and it is a broadcast from this root, to which the rank
 -- gives these items
 abbrev pub BeganBroadcast : State → History → ℕ → ℕ → List ℤ → Type 0
 BeganBroadcast start h k root items =
-    (call : Call) × Began start h k call × (call.kind ≡ broadcasts) × (call.root ≡ root) × (call.items ≡ items)
+    (call : CollectiveCall) × Began start h k call × (call.kind ≡ broadcasts) × (call.root ≡ root) × (call.items ≡ items)
 
 -- the rank has begun its kth collective, and it is this reduce to this root, to which the rank
 -- gives this value
 abbrev pub BeganReduce : State → History → ℕ → Reduction → ℕ → ℤ → Type 0
 BeganReduce start h k f root v =
-    (call : Call) × Began start h k call × (call.kind ≡ folds f) × (call.root ≡ root) × (call.items ≡ v ∷ [])
+    (call : CollectiveCall) × Began start h k call × (call.kind ≡ folds f) × (call.root ≡ root) × (call.items ≡ v ∷ [])
 
 -- These items are in the buffer of the broadcast that stood, and nothing else that is stored
 -- changed but the number of finished collectives.
@@ -115,20 +115,20 @@ Folded s (Some (reduce g root value place)) f values s' =
 -- The kth collective that a rank began is one.
 abbrev pub OneCall : (ℕ → State) → ℕ → List Passed → Type 0
 OneCall start n C =
-    (r k : ℕ) (one other : Call) → r < n → Began (start r) (history C r) k one → Began (start r) (history C r) k other → one ≡ other
+    (r k : ℕ) (one other : CollectiveCall) → r < n → Began (start r) (history C r) k one → Began (start r) (history C r) k other → one ≡ other
 
 -- Where a rank finished its kth collective and it is a barrier, each rank has begun its kth and it
 -- is a barrier.
 abbrev pub BarrierLaw : (ℕ → State) → ℕ → List Passed → Type 0
 BarrierLaw start n C =
-    (r k : ℕ) (call : Call) (from to : State) → r < n → Finished (start r) (history C r) k call from to → call.kind ≡ barriers
+    (r k : ℕ) (call : CollectiveCall) (from to : State) → r < n → Finished (start r) (history C r) k call from to → call.kind ≡ barriers
     → (s : ℕ) → s < n → BeganBarrier (start s) (history C s) k
 
 -- Where a rank finished its kth collective and it is a broadcast, its buffer got the items that the
 -- root gave in its kth, a broadcast from the same root.
 abbrev pub BroadcastLaw : (ℕ → State) → ℕ → List Passed → Type 0
 BroadcastLaw start n C =
-    (r k : ℕ) (call : Call) (from to : State) → r < n → Finished (start r) (history C r) k call from to → call.kind ≡ broadcasts
+    (r k : ℕ) (call : CollectiveCall) (from to : State) → r < n → Finished (start r) (history C r) k call from to → call.kind ≡ broadcasts
     → (call.root < n)
     × (items : List ℤ) × BeganBroadcast (start call.root) (history C call.root) k call.root items
     × Got from.store (first_collective from.rest) items to.store
@@ -138,7 +138,7 @@ BroadcastLaw start n C =
 -- to the same root.
 abbrev pub ReduceLaw : (ℕ → State) → ℕ → List Passed → Type 0
 ReduceLaw start n C =
-    (r k : ℕ) (call : Call) (f : Reduction) (from to : State) → r < n → Finished (start r) (history C r) k call from to
+    (r k : ℕ) (call : CollectiveCall) (f : Reduction) (from to : State) → r < n → Finished (start r) (history C r) k call from to
     → call.kind ≡ folds f → call.root ≡ r
     → (values : List ℤ) × (length values ≡ n)
     × ((s : ℕ) (v : ℤ) → slice_get values s ≡ Some v → BeganReduce (start s) (history C s) k f r v)
@@ -153,4 +153,4 @@ pub record CollectiveLaws (start : ℕ → State) (n : ℕ) (C : List Passed) : 
 
 -- a rank finished its kth collective
 abbrev pub HasFinished : State → History → ℕ → Type 0
-HasFinished start h k = (call : Call) × (from : State) × (to : State) × Finished start h k call from to
+HasFinished start h k = (call : CollectiveCall) × (from : State) × (to : State) × Finished start h k call from to

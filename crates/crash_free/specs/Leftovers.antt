@@ -5,13 +5,13 @@ use Rattle.matching.specs.PacketValue as packet
 use Rattle.matching.specs.declared.packet.Context.{Context}
 use Rattle.matching.specs.declared.packet.Context.TheVariants.{PointToPoint, Collective}
 use Rattle.crash_free.specs.declared.leftover.Leftover.{Leftover}
-use Rattle.crash_free.specs.declared.leftover.Mark.{Mark}
-use Rattle.crash_free.specs.declared.leftover.Mark.TheVariants as mark
+use Rattle.crash_free.specs.declared.leftover.MessageMark.{MessageMark}
+use Rattle.crash_free.specs.declared.leftover.MessageMark.TheVariants as mark
 use Rattle.crash_free.specs.Runs.{Passed}
 use Rattle.crash_free.specs.Alike.{unreceived}
 
 -- by what to know a message: its tag, or, of a collective's packet, the kind of the collective and its number among those of its rank
-abbrev pub mark_in : Context → ℕ → List ℤ → Mark
+abbrev pub mark_in : Context → ℕ → List ℤ → MessageMark
 mark_in PointToPoint tag items = mark.Tag tag
 mark_in Collective tag items = mark.Call (slice_get items 0) (slice_get items 2)
 

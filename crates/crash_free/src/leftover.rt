@@ -9,7 +9,7 @@ use std::alloc::AllocError;
 
 /// By what to know a message.
 #[derive(Clone, Copy, PartialEq, Eq)]
-pub enum Mark {
+pub enum MessageMark {
     /// The tag of a message between two ranks.
     Tag(u16),
     /// Of a collective's packet the kind of the collective, and its number among
@@ -27,17 +27,17 @@ pub struct Leftover {
     pub rank: u8,
     /// Of whom it is.
     pub source: u8,
-    pub mark: Mark,
+    pub mark: MessageMark,
 }
 
-fn mark_of(packet: &Packet) -> Mark
+fn mark_of(packet: &Packet) -> MessageMark
     ensures { result ≡ mark_in packet.now.context packet.now.tag packet.now.items }
 {
     match packet.context {
-        Context::PointToPoint => Mark::Tag(packet.tag),
+        Context::PointToPoint => MessageMark::Tag(packet.tag),
         Context::Collective => {
             let items = packet.payload.as_slice();
-            Mark::Call {
+            MessageMark::Call {
                 kind: items.first().copied(),
                 number: items.get(2).copied(),
             }

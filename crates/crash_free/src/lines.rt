@@ -8,11 +8,11 @@ use std::marker::Model;
 
 /// The values that one rank printed, in order.
 #[derive(Drop)]
-pub struct RankLines {
+pub struct RankPrintedValues {
     values: Vec<i64, Heap>,
 }
 
-impl Model for RankLines {
+impl Model for RankPrintedValues {
     ghost use Rattle.std.specs.Prelude.{List, ℤ};
 
     ghost Value = { List ℤ };
@@ -20,21 +20,21 @@ impl Model for RankLines {
     ghost view = { λ row. row.values.items };
 }
 
-impl Clone for RankLines {
+impl Clone for RankPrintedValues {
     ghost is_clone = { λ row clone. clone ≡ row };
 
-    fn clone(&self) -> Result<RankLines, AllocError> {
-        Ok(RankLines {
+    fn clone(&self) -> Result<RankPrintedValues, AllocError> {
+        Ok(RankPrintedValues {
             values: self.values.as_slice().to_vec(*self.values.allocator())?,
         })
     }
 }
 
-impl RankLines {
-    fn new(alloc: Heap) -> RankLines
+impl RankPrintedValues {
+    fn new(alloc: Heap) -> RankPrintedValues
         ensures { result ≡ [] }
     {
-        RankLines {
+        RankPrintedValues {
             values: Vec::new(alloc),
         }
     }
@@ -56,11 +56,11 @@ impl RankLines {
 
 /// The lines of all ranks: a row for each rank that there may be.
 #[derive(Drop)]
-pub struct Lines {
-    rows: Vec<RankLines, Heap>,
+pub struct PrintedValues {
+    rows: Vec<RankPrintedValues, Heap>,
 }
 
-impl Model for Lines {
+impl Model for PrintedValues {
     ghost use Rattle.std.specs.Prelude.{List, ℤ};
 
     ghost Value = { List (List ℤ) };
@@ -68,23 +68,23 @@ impl Model for Lines {
     ghost view = { λ lines. lines.rows.items };
 }
 
-impl Lines {
+impl PrintedValues {
     /// No rank has printed anything.
-    pub fn new(alloc: Heap) -> Result<Lines, AllocError>
+    pub fn new(alloc: Heap) -> Result<PrintedValues, AllocError>
         ensures { IfOk result (λ lines. lines ≡ replicate most_ranks []) }
     {
         let mut rows = Vec::new(alloc);
         for _ in 0..MOST_RANKS {
-            rows.push(RankLines::new(alloc))?;
+            rows.push(RankPrintedValues::new(alloc))?;
         }
-        Ok(Lines { rows })
+        Ok(PrintedValues { rows })
     }
 
     /// The same lines, in memory of their own.
-    pub fn copy(&self, alloc: Heap) -> Result<Lines, AllocError>
+    pub fn copy(&self, alloc: Heap) -> Result<PrintedValues, AllocError>
         ensures { IfOk result (λ lines. lines ≡ self.now) }
     {
-        Ok(Lines {
+        Ok(PrintedValues {
             rows: self.rows.as_slice().to_vec(alloc)?,
         })
     }

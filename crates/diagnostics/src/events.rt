@@ -10,61 +10,61 @@ use std::alloc::AllocError;
 use world_model::events_text::EventsFaultKind;
 
 /// An event: its word, and what numbers follow it.
-struct Form {
+struct EventForm {
     word: &'static str,
     numbers: usize,
     shown: &'static str,
 }
 
-const FORMS: [Form; 9] = [
-    Form {
+const FORMS: [EventForm; 9] = [
+    EventForm {
         word: "step",
         numbers: 1,
         shown: "`step R`",
     },
-    Form {
+    EventForm {
         word: "put",
         numbers: 2,
         shown: "`put S R`",
     },
-    Form {
+    EventForm {
         word: "arrive",
         numbers: 3,
         shown: "`arrive S R I`",
     },
-    Form {
+    EventForm {
         word: "store",
         numbers: 1,
         shown: "`store R`",
     },
-    Form {
+    EventForm {
         word: "ack",
         numbers: 1,
         shown: "`ack R`",
     },
-    Form {
+    EventForm {
         word: "release",
         numbers: 1,
         shown: "`release R`",
     },
-    Form {
+    EventForm {
         word: "image",
         numbers: 1,
         shown: "`image R`",
     },
-    Form {
+    EventForm {
         word: "crash",
         numbers: 1,
         shown: "`crash R`",
     },
-    Form {
+    EventForm {
         word: "restart",
         numbers: 1,
         shown: "`restart R`",
     },
 ];
 
-fn forms() -> &'static [Form] {
+fn forms() -> &'static [EventForm] {
     &FORMS
 }
 
@@ -115,7 +115,7 @@ fn put_bad_line(
     }
 }
 
-fn form_of(word: Piece<'_>) -> Option<&'static Form> {
+fn form_of(word: Piece<'_>) -> Option<&'static EventForm> {
     for form in forms() {
         if word.is(form.word.as_bytes()) {
             return Some(form);
@@ -136,7 +136,7 @@ fn put_no_event(told: &mut TextWriter, alloc: Heap, line: &[u8], words: &[Piece<
 }
 
 // The first word that is no number, or stands where none is.
-fn put_numbers(told: &mut TextWriter, line: &[u8], words: &[Piece<'_>], form: &Form) {
+fn put_numbers(told: &mut TextWriter, line: &[u8], words: &[Piece<'_>], form: &EventForm) {
     let place = numbers_in_front(words).min(form.numbers);
     let expected = if place < form.numbers {
         "a number of at most 9 digits"

@@ -1,13 +1,13 @@
 //! A program's fault, explained.
 
-use crate::declared::{Before, Block, Declared, Sort};
+use crate::declared::{Before, DeclaredName, OpenBlock, Sort};
 use crate::fitting::{STATEMENTS, first_misfit};
 use crate::foreign::{SET, aim_of};
 use crate::near::{NearWord, put_nearest};
 use crate::passed_limits::limit_passed;
 use crate::piece::{Cut, Piece, pieces_of};
 use crate::shown::{line_of, put_bytes, put_marked, put_piece};
-use crate::value::Reader;
+use crate::value::ExpressionReader;
 use crate::wordless::put_no_text;
 use limits::Heap;
 use rank_language::{FaultKind, ProgramFault};
@@ -96,7 +96,7 @@ fn put_aim(told: &mut TextWriter, aim: &str) {
 }
 
 fn put_misfit(told: &mut TextWriter, alloc: Heap, line: &[u8], pieces: &[Piece<'_>]) {
-    let mut reader = Reader::new(alloc);
+    let mut reader = ExpressionReader::new(alloc);
     match first_misfit(&mut reader, pieces) {
         Some(misfit) => {
             put_piece(told, line, pieces, misfit.place);
@@ -134,7 +134,7 @@ fn put_undeclared(
     }
 }
 
-fn put_other_sort(told: &mut TextWriter, piece: Piece<'_>, declared: Declared<'_>) {
+fn put_other_sort(told: &mut TextWriter, piece: Piece<'_>, declared: DeclaredName<'_>) {
     told.text(" is declared on line ");
     told.number(declared.line as u64);
     match declared.sort {
@@ -179,7 +179,7 @@ fn put_open(told: &mut TextWriter, before: &Before<'_>) {
     }
 }
 
-fn put_line_of(told: &mut TextWriter, block: Block<'_>) {
+fn put_line_of(told: &mut TextWriter, block: OpenBlock<'_>) {
     let length = without_front(block.text, b' ').len();
     let first = block.text.len().saturating_sub(length);
     told.numbered("line ", block.line as u64, ":\n");

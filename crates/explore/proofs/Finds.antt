@@ -6,7 +6,7 @@ use Rattle.std.specs.BTreeMap as tree
 use Rattle.std.specs.BTreeMap.{BTreeMap, is_at}
 use Rattle.std.specs.Map.{lookup}
 use Rattle.audit.specs.FinalRuns.Maximal.{RankOutcome}
-use Rattle.explore.specs.Explored.{OutcomeValue, rank_outcomes}
+use Rattle.explore.specs.Explored.{FoundOutcomeValue, rank_outcomes}
 use Rattle.explore.specs.Found.{AreFound, hash_of, HaveEntries}
 use Rattle.explore.specs.Outcomes.{IsAmong}
 use Rattle.explore.proofs.Among.{among_none, among_push}
@@ -45,7 +45,7 @@ entries_same : (outcomes : List (List RankOutcome)) (old new : BTreeMap ℕ ℕ)
 entries_same outcomes old new before same o a = subst (λ es. IsSome (lookup (is_at (nat_cmp (hash_of o))) es)) (sym same) (before o a)
 
 -- then all is as it was
-pub found_same : (xs : List OutcomeValue) (old new : BTreeMap ℕ ℕ) → AreFound xs old → new.entries ≡ old.entries → AreFound xs new
+pub found_same : (xs : List FoundOutcomeValue) (old new : BTreeMap ℕ ℕ) → AreFound xs old → new.entries ≡ old.entries → AreFound xs new
 found_same xs old new found same =
     record {
       entries = entries_same (rank_outcomes xs) old new found.entries same;

@@ -22,7 +22,7 @@ use Rattle.crash_free.proofs.Lists.{push_cases, run_begins}
 use Rattle.audit.specs.FinalRuns.Maximal.{IsOutcomeOf, MayFollow, RankOutcome}
 use Rattle.explore.specs.declared.moves.Noted.{Noted}
 use Rattle.explore.specs.Chosen.{MakesChoices}
-use Rattle.explore.specs.Explored.{OutcomeValue, noted_choices, rank_outcomes}
+use Rattle.explore.specs.Explored.{FoundOutcomeValue, noted_choices, rank_outcomes}
 use Rattle.explore.specs.Exploring.{and_then}
 use Rattle.explore.specs.Searching.{IsAlike}
 use Rattle.explore.specs.Shown.{IsMark, was_shown, IsPast, MayMissShown, MissesShown}
@@ -219,7 +219,7 @@ misses_none start run p before here (inl x) = here x.0 x.1
 misses_none start run p before here (inr x) = before x
 
 -- one mark more
-pub marked_more : (program : ProgramValue) (n : ℕ) (outcomes : List OutcomeValue) (marks : List (Option Bool)) (at : ℕ) (x : OutcomeValue)
+pub marked_more : (program : ProgramValue) (n : ℕ) (outcomes : List FoundOutcomeValue) (marks : List (Option Bool)) (at : ℕ) (x : FoundOutcomeValue)
     (mark : Option Bool) → length marks ≡ at → slice_get outcomes at ≡ Some x → IfSome mark (IsMark program n x.ranks x.choices)
     → ((i : ℕ) (o : List RankOutcome) (cs : List Noted) (m : Option Bool) → slice_get (rank_outcomes outcomes) i ≡ Some o
     → slice_get (noted_choices outcomes) i ≡ Some cs → slice_get marks i ≡ Some m → IfSome m (IsMark program n o cs))

@@ -9,7 +9,7 @@ use Rattle.rank_language.specs.Block.{Block, done, plain, if_only, if_else, loop
 use Rattle.rank_machine.specs.declared.fault.MachineFault.{MachineFault}
 use Rattle.rank_machine.specs.declared.fault.MachineFault.TheVariants.{TooLong}
 use Rattle.rank_machine.specs.Values.{Store, Valued, value, is_zero}
-use Rattle.rank_machine.specs.Collectives.{Call, called, is_last, part_done, own_end}
+use Rattle.rank_machine.specs.Collectives.{CollectiveCall, called, is_last, part_done, own_end}
 use Rattle.rank_machine.specs.States.{State, Inners, here, on, item_value, after_test, after_value, inner_rest, inner_store, inner_of, inner}
 use Rattle.rank_machine.specs.Acts.{Message, Act, sends, takes, hits, misses, prints, room, written, with_status}
 use Rattle.rank_machine.specs.Acts.{goes_on, received, kept, part_made, part_sent, part_taken, items_taken, collected, after_collect, after_first, unless_faulted, next, Runs}
@@ -124,7 +124,7 @@ received_follows x b r a source m is = by_test (nat_le (length m.items) (room a.
     by_test false = record { rest = inl refl; rank = refl; size = refl }
 
 -- what is stored after a part
-part_leaves : (s : Store) (call : Call) → RankStays s (part_done s call)
+part_leaves : (s : Store) (call : CollectiveCall) → RankStays s (part_done s call)
 part_leaves s call = by_last (is_last s call) refl
   where
     by_last : (last : Bool) → is_last s call ≡ last → RankStays s (part_done s call)
@@ -132,7 +132,7 @@ part_leaves s call = by_last (is_last s call) refl
     by_last false e = record { rank = rw e refl; size = rw e refl }
 
 -- after a part of a collective
-part_follows : (a : State) (s : Store) (x : Simple) (r : Block) (call : Call) → a.rest ≡ plain x r → RankStays a.store s → Follows a (part_made a s r call)
+part_follows : (a : State) (s : Store) (x : Simple) (r : Block) (call : CollectiveCall) → a.rest ≡ plain x r → RankStays a.store s → Follows a (part_made a s r call)
 part_follows a s x r call is left =
     let k = part_leaves s call in
     record {
@@ -146,7 +146,7 @@ part_follows a s x r call is left =
     by_last false = inl refl
 
 -- that sends
-sent_follows : (a : State) (x : Simple) (r : Block) (call : Valued Call) → a.rest ≡ plain x r → Follows a (part_sent a r call)
+sent_follows : (a : State) (x : Simple) (r : Block) (call : Valued CollectiveCall) → a.rest ≡ plain x r → Follows a (part_sent a r call)
 sent_follows a x r (Ok call) is = part_follows a a.store x r call is (record { rank = refl; size = refl })
 sent_follows a x r (Err k) is = still a
 
@@ -157,13 +157,13 @@ kept_leaves (broadcast e b) items s = let k = written_keeps b items s in record 
 kept_leaves (reduce f e v p) items s = record { rank = refl; size = refl }
 
 -- or that takes these items
-taken_follows : (a : State) (c : Collective) (x : Simple) (r : Block) (call : Call) (items : Valued (List ℤ)) → a.rest ≡ plain x r
+taken_follows : (a : State) (c : Collective) (x : Simple) (r : Block) (call : CollectiveCall) (items : Valued (List ℤ)) → a.rest ≡ plain x r
     → Follows a (part_taken a c r call items)
 taken_follows a c x r call (Ok items) is = part_follows a (kept c items a.store) x r call is (kept_leaves c items a.store)
 taken_follows a c x r call (Err k) is = record { rest = inl refl; rank = refl; size = refl }
 
 -- of this packet
-collected_follows : (a : State) (c : Collective) (x : Simple) (r : Block) (m : Message) (call : Valued Call) → a.rest ≡ plain x r
+collected_follows : (a : State) (c : Collective) (x : Simple) (r : Block) (m : Message) (call : Valued CollectiveCall) → a.rest ≡ plain x r
     → Follows a (collected a c r m call)
 collected_follows a c x r m (Ok call) is = taken_follows a c x r call (items_taken a.store c call m.items) is
 collected_follows a c x r m (Err k) is = still a

@@ -11,7 +11,7 @@ use Rattle.audit.specs.declared.outcome.End.TheVariants as end
 use Rattle.audit.specs.FinalRuns.Maximal.{RankOutcome}
 use Rattle.crash_free.specs.declared.leftover.Leftover.{Leftover}
 use Rattle.explore.specs.Endings.{Ending}
-use Rattle.explore.specs.Explored.{OutcomeValue, rank_outcomes}
+use Rattle.explore.specs.Explored.{FoundOutcomeValue, rank_outcomes}
 use Rattle.explore.specs.Outcomes.{IsAmong, AreDistinct}
 
 -- how a rank ended, as a number that is the same for all faults
@@ -38,7 +38,7 @@ abbrev pub endings_with : List RankOutcome → List (List Leftover) → List End
 endings_with ranks left = map (λ (l : List Leftover). record { ranks = ranks; left = l }) left
 
 -- the endings of these outcomes: each with each of its leftovers
-abbrev pub endings_of : List OutcomeValue → List Ending
+abbrev pub endings_of : List FoundOutcomeValue → List Ending
 endings_of [] = []
 endings_of (o ∷ outcomes) = endings_with o.ranks o.left ++ endings_of outcomes
 
@@ -54,18 +54,18 @@ pub record AreGrouped (endings : List Ending) (outcomes : List (List RankOutcome
   pub once : (i : ℕ) (listed : List (List Leftover)) → slice_get left i ≡ Some listed → AreDistinct listed
 
 -- Under the hash of each outcome there is an entry, and no outcome stands twice. Each has some leftovers, none twice.
-pub record AreFound (outcomes : List OutcomeValue) (by_hash : BTreeMap ℕ ℕ) : Type 0 where
+pub record AreFound (outcomes : List FoundOutcomeValue) (by_hash : BTreeMap ℕ ℕ) : Type 0 where
   pub entries : HaveEntries (rank_outcomes outcomes) by_hash
   pub distinct : AreDistinct (rank_outcomes outcomes)
-  pub some : (i : ℕ) (x : OutcomeValue) → slice_get outcomes i ≡ Some x → (l : List Leftover) × IsAmong x.left l
-  pub once : (i : ℕ) (x : OutcomeValue) → slice_get outcomes i ≡ Some x → AreDistinct x.left
+  pub some : (i : ℕ) (x : FoundOutcomeValue) → slice_get outcomes i ≡ Some x → (l : List Leftover) × IsAmong x.left l
+  pub once : (i : ℕ) (x : FoundOutcomeValue) → slice_get outcomes i ≡ Some x → AreDistinct x.left
 
 -- the outcome with these leftovers more
-abbrev pub and_left : OutcomeValue → List Leftover → OutcomeValue
+abbrev pub and_left : FoundOutcomeValue → List Leftover → FoundOutcomeValue
 and_left x l = record { ranks = x.ranks; choices = x.choices; left = x.left ++ l ∷ [] }
 
 -- the outcome at this place has these leftovers already, and nothing is added, or they are added to it
-pub record AddsLeft (place : ℕ) (l : List Leftover) (old new : List OutcomeValue) : Type 0 where
-  pub outcome : OutcomeValue
+pub record AddsLeft (place : ℕ) (l : List Leftover) (old new : List FoundOutcomeValue) : Type 0 where
+  pub outcome : FoundOutcomeValue
   pub there : slice_get old place ≡ Some outcome
   pub added : (IsAmong outcome.left l × (new ≡ old)) ⊎ ((IsAmong outcome.left l → ⊥) × (new ≡ slice_set old place (and_left outcome l)))

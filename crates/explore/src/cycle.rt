@@ -10,7 +10,7 @@ ghost use Rattle.explore.specs.Outcomes.{IsAmong};
 mod mark;
 
 use crate::bounds::Limits;
-use crate::cycle::mark::Mark;
+use crate::cycle::mark::CycleMark;
 use crate::moves::{Move, add_moves};
 use crate::path::Path;
 use crate::steps::go_on;
@@ -58,7 +58,7 @@ fn follow(alloc: Heap, path: &mut Path<'_>, live: &Live) -> Result<Option<Cycle>
     requires table { IsTableOf path.old.sim.program live.now }
     ensures { IfOk result (λ found. IfSome found (λ _. MayGoOnForEver path.old.sim.program (length path.old.sim.machines))) }
 {
-    let mut mark = Mark::new(alloc, &path.sim, live)?;
+    let mut mark = CycleMark::new(alloc, &path.sim, live)?;
     for _ in 0..MOST_ROUNDS {
         if !round(alloc, path, &mut mark.positions)? {
             return Ok(None);

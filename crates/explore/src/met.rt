@@ -5,7 +5,7 @@ ghost use Rattle.crash_free.specs.Standing.{Rows, behind, and_rank, rows_of, Sta
 ghost use Rattle.explore.specs.Met.{AddsAtMost, StandsBy, WasMet, first_rows, state_rows};
 ghost use Rattle.explore.specs.Parts.{KeepsParts, AreParts};
 
-use crate::parts::Parts;
+use crate::parts::StandingParts;
 use crate::state::State;
 use crate::states::States;
 use crash_free::live_variables::Live;
@@ -28,7 +28,7 @@ const MOST_NUMBERS: usize = 33_554_432;
 #[derive(Drop)]
 pub struct Met {
     alloc: Heap,
-    parts: Parts,
+    parts: StandingParts,
     states: States,
     // where each part is written, so that one that is kept takes no more memory
     part: Standing,
@@ -56,7 +56,7 @@ impl Met {
     {
         Met {
             alloc,
-            parts: Parts::new(alloc, MOST_NUMBERS),
+            parts: StandingParts::new(alloc, MOST_NUMBERS),
             states: States::new(alloc, most_states),
             part: Standing::new(alloc),
             closes,
@@ -108,7 +108,7 @@ impl Met {
 // Where all ranks stand, by parts that are kept from now on. `None` if there is no room for one.
 fn state_of(
     alloc: Heap,
-    parts: &mut Parts,
+    parts: &mut StandingParts,
     part: &mut Standing,
     sim: &Sim<'_>,
     live: &Live,
@@ -152,7 +152,7 @@ fn write_first(sim: &Sim<'_>, closes: bool, part: &mut Standing) -> Result<(), A
 
 // Adds the parts of the rank to the state, and answers whether there is room for them.
 fn add_rank(
-    parts: &mut Parts,
+    parts: &mut StandingParts,
     part: &mut Standing,
     sim: &Sim<'_>,
     live: &Live,
@@ -174,7 +174,11 @@ fn add_rank(
 }
 
 // Adds the part to the state, and answers whether there is room for it.
-fn add_part(parts: &mut Parts, part: &Standing, state: &mut State) -> Result<bool, AllocError>
+fn add_part(
+    parts: &mut StandingParts,
+    part: &Standing,
+    state: &mut State,
+) -> Result<bool, AllocError>
     ensures keeps { KeepsParts parts.old parts.new }
     ensures adds { result ≡ Ok true → (rows : Rows) → AreParts parts.old state.old rows → AreParts parts.new state.new (behind rows part.now) }
 {

@@ -14,10 +14,10 @@ use crate::explored::Explored;
 use crate::found::Found;
 use crate::met::Met;
 use crate::path::Path;
-use crate::play::{Played, play};
+use crate::play::{PathEnd, play};
 use crate::races::Races;
 use crate::stops::Stops;
-use crate::tables::Tables;
+use crate::tables::ProgramTables;
 use crate::taking::take_up;
 use audit::final_runs::outcome_of;
 use limits::Heap;
@@ -80,7 +80,7 @@ impl<'p> Search<'p> {
     /// Takes up branches, the last one first, until one comes to where no run
     /// stood, and looks at its run. Answers whether there was one. An `Err` means
     /// out of memory.
-    pub fn look_on(&mut self, alloc: Heap, tables: &Tables) -> Result<bool, AllocError>
+    pub fn look_on(&mut self, alloc: Heap, tables: &ProgramTables) -> Result<bool, AllocError>
         requires few { length self.old.path.sim.machines ≤ most_ranks }
         requires tables { AreTablesOf self.old.path.sim.program tables.now }
         requires back { (steps : ℕ) × CanGoBack steps self.old.path.sim self.old.path.left self.old.stops }
@@ -108,7 +108,12 @@ impl<'p> Search<'p> {
     // Takes up one branch, goes on with its run to its end, or to where a run stood before, and
     // notes the outcome that it has at its end. Answers false if a run stood there before it left a
     // branch itself: then what may follow was looked at before.
-    fn look(&mut self, alloc: Heap, tables: &Tables, branch: Branch) -> Result<bool, AllocError>
+    fn look(
+        &mut self,
+        alloc: Heap,
+        tables: &ProgramTables,
+        branch: Branch,
+    ) -> Result<bool, AllocError>
         requires few { length self.old.path.sim.machines ≤ most_ranks }
         requires tables { AreTablesOf self.old.path.sim.program tables.now }
         requires back { (steps : ℕ) × CanGoBack steps self.old.path.sim self.old.path.left self.old.stops }
@@ -139,14 +144,14 @@ impl<'p> Search<'p> {
             &mut self.met,
             &mut self.races,
         )? {
-            Played::Still => {
+            PathEnd::Still => {
                 let ranks = outcome_of(alloc, &self.path.sim)?;
                 let left = self.path.sim.left()?;
                 self.found.note(ranks, left, self.path.choices.as_slice())?;
                 Ok(true)
             }
-            Played::Met => Ok(self.pending.len() > others),
-            Played::Spent => {
+            PathEnd::Met => Ok(self.pending.len() > others),
+            PathEnd::Spent => {
                 self.out_of_steps = true;
                 Ok(true)
             }

@@ -18,7 +18,7 @@ const MOST_PARTS: usize = 1 + 2 * MOST_RANKS;
 /// Parts of where all ranks stand, each kept once. In the states of a search few
 /// parts are distinct, as an act leaves what most ranks have as it was.
 #[derive(Drop)]
-pub struct Parts {
+pub struct StandingParts {
     alloc: Heap,
     // oldest first
     kept: Vec<Standing, Heap>,
@@ -31,7 +31,7 @@ pub struct Parts {
     room: usize,
 }
 
-impl Model for Parts {
+impl Model for StandingParts {
     ghost use Rattle.std.specs.Prelude.{List};
     ghost use Rattle.crash_free.specs.Standing as standing;
 
@@ -40,12 +40,12 @@ impl Model for Parts {
     ghost view = { λ p. p.kept.items };
 }
 
-impl Parts {
+impl StandingParts {
     /// None yet, and room for so many numbers.
-    pub fn new(alloc: Heap, room: usize) -> Parts
+    pub fn new(alloc: Heap, room: usize) -> StandingParts
         ensures { result ≡ [] }
     {
-        Parts {
+        StandingParts {
             alloc,
             kept: Vec::new(alloc),
             by_hash: BTreeMap::new(alloc),

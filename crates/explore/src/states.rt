@@ -2,7 +2,7 @@
 ghost use Rattle.std.specs.Prelude.{◌≡◌, ◌⊎◌, ◌∷◌, ◌++◌, true, [], Ok, OnOk, OnErr};
 ghost use Rattle.explore.specs.Outcomes.{IsAmong};
 
-use crate::parts::Parts;
+use crate::parts::StandingParts;
 use crate::state::State;
 use limits::Heap;
 use std::alloc::AllocError;
@@ -43,7 +43,7 @@ impl States {
 
     /// Whether the state is among them; if not, it is kept, if there is room for
     /// it beside the parts. An `Err` means out of memory.
-    pub fn meets(&mut self, state: State, parts: &mut Parts) -> Result<bool, AllocError>
+    pub fn meets(&mut self, state: State, parts: &mut StandingParts) -> Result<bool, AllocError>
         ensures yes { result ≡ Ok true → IsAmong self.old state }
         ensures same { result ≡ Ok true → self.new ≡ self.old }
         ensures adds { (self.new ≡ self.old) ⊎ (self.new ≡ self.old ++ state ∷ []) }

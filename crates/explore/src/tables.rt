@@ -9,21 +9,21 @@ use std::alloc::AllocError;
 
 /// What a search knows of a program before it begins.
 #[derive(Drop)]
-pub struct Tables {
+pub struct ProgramTables {
     /// What is unread at each position.
     pub live: Live,
     /// From which positions on a rank sends another no more.
     pub silences: Silences,
 }
 
-impl Tables {
+impl ProgramTables {
     ghost use Rattle.explore.specs.Tables.{AreTablesOf};
 
     /// The tables of a program on so many ranks. An `Err` means out of memory.
-    pub fn of(alloc: Heap, program: &Program, ranks: u8) -> Result<Tables, AllocError>
+    pub fn of(alloc: Heap, program: &Program, ranks: u8) -> Result<ProgramTables, AllocError>
         ensures { IfOk result (λ tables. AreTablesOf program.now tables) }
     {
-        Ok(Tables {
+        Ok(ProgramTables {
             live: Live::of(alloc, program)?,
             silences: Silences::of(alloc, program, ranks)?,
         })

@@ -13,7 +13,7 @@ use Rattle.rank_language.specs.Block.{Line, simple_line, if_line, else_line, end
 use Rattle.rank_language.specs.Shape.{step_of}
 use Rattle.rank_language.specs.Seen.{line_of}
 use Rattle.rank_language.specs.Program.{IsPlaced, AllPlaced}
-use Rattle.rank_language.specs.Ends.{Kind, is_plain, is_if, is_else, is_end, is_while, kind_of, led_back, back_at, lines_behind}
+use Rattle.rank_language.specs.Ends.{BlockKind, is_plain, is_if, is_else, is_end, is_while, kind_of, led_back, back_at, lines_behind}
 
 -- a line that is led back is the same statement
 led_back-step : (n : ℕ) (l : Line) → step_of (led_back n l) ≡ step_of l
@@ -46,7 +46,7 @@ back_at-placed v a n zero (l ∷ ls) h = (led_back-placed v a n l h.0, h.1)
 back_at-placed v a n (suc j) (l ∷ ls) h = (h.0, back_at-placed v a n j ls h.1)
 
 -- the lines behind a statement are the same statements
-pub behind-steps : (n : ℕ) (k : Kind) (target : ℕ) (ls : List Line) → map step_of (lines_behind n k target ls) ≡ map step_of ls
+pub behind-steps : (n : ℕ) (k : BlockKind) (target : ℕ) (ls : List Line) → map step_of (lines_behind n k target ls) ≡ map step_of ls
 behind-steps n is_plain target ls = refl
 behind-steps n is_if target ls = refl
 behind-steps n is_else target ls = refl
@@ -54,7 +54,7 @@ behind-steps n is_end target ls = refl
 behind-steps n is_while target ls = back_at-steps n (target - n - 2) ls
 
 -- their places are in the tables
-pub behind-placed : (v a n : ℕ) (k : Kind) (target : ℕ) (ls : List Line) → AllPlaced v a ls → AllPlaced v a (lines_behind n k target ls)
+pub behind-placed : (v a n : ℕ) (k : BlockKind) (target : ℕ) (ls : List Line) → AllPlaced v a ls → AllPlaced v a (lines_behind n k target ls)
 behind-placed v a n is_plain target ls h = h
 behind-placed v a n is_if target ls h = h
 behind-placed v a n is_else target ls h = h

@@ -7,12 +7,12 @@ use Rattle.rank_language.specs.Placed.{Placed, Simple, Step, does, tests, repeat
 use Rattle.rank_language.specs.Block.{Block, done, plain, if_only, if_else, loop, Line, simple_line}
 use Rattle.rank_language.specs.Block.{if_line, else_line, end_line, while_line, back_line, size, lines_at}
 use Rattle.rank_language.specs.Shape.{Part, fronted, branched, looped, parts, innermost, block_of_steps}
-use Rattle.rank_language.specs.Ends.{Kind, is_plain, is_if, is_else, is_end, is_while, nearest, farther, target_of, ends_before, line_to, back_at, lines_behind}
+use Rattle.rank_language.specs.Ends.{BlockKind, is_plain, is_if, is_else, is_end, is_while, nearest, farther, target_of, ends_before, line_to, back_at, lines_behind}
 use Rattle.rank_language.proofs.Places.{length-lines_at}
 use Rattle.rank_language.proofs.Loops.{back_seam}
 
 -- what a statement does to blocks
-abbrev pub kind_of_step : Step → Kind
+abbrev pub kind_of_step : Step → BlockKind
 kind_of_step (does s) = is_plain
 kind_of_step (tests e) = is_if
 kind_of_step otherwise = is_else
@@ -20,7 +20,7 @@ kind_of_step closes = is_end
 kind_of_step (repeats e) = is_while
 
 -- the blocks that are open behind a statement
-abbrev pub blocks_after : Kind → List Opened → List Opened
+abbrev pub blocks_after : BlockKind → List Opened → List Opened
 blocks_after is_plain bs = bs
 blocks_after is_if bs = in_if ∷ bs
 blocks_after is_else bs = other_branch bs
@@ -28,7 +28,7 @@ blocks_after is_end bs = outer bs
 blocks_after is_while bs = in_while ∷ bs
 
 -- an `end` without its block, an `else` without its `if`
-abbrev pub strays : Kind → List Opened → Bool
+abbrev pub strays : BlockKind → List Opened → Bool
 strays is_plain bs = false
 strays is_if bs = false
 strays is_else bs = not (is_open_if bs)

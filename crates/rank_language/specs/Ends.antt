@@ -21,15 +21,15 @@ farther [] = []
 farther (n ∷ ns) = ns
 
 -- what a statement does to blocks
-pub data Kind : Type 0 where
-  is_plain : Kind
-  is_if : Kind
-  is_else : Kind
-  is_end : Kind
-  is_while : Kind
+pub data BlockKind : Type 0 where
+  is_plain : BlockKind
+  is_if : BlockKind
+  is_else : BlockKind
+  is_end : BlockKind
+  is_while : BlockKind
 
 -- what a statement by name does to blocks
-abbrev pub kind_of : Form → Kind
+abbrev pub kind_of : Form → BlockKind
 kind_of (var_form x) = is_plain
 kind_of (array_form x n) = is_plain
 kind_of (let_form x e) = is_plain
@@ -48,7 +48,7 @@ kind_of (bcast_form r x) = is_plain
 kind_of (reduce_form o r e x) = is_plain
 
 -- the target of a statement behind which blocks with these ends are open: an `if`, an `else` and a `while` lead to the nearest
-abbrev pub target_of : Kind → List ℕ → ℕ
+abbrev pub target_of : BlockKind → List ℕ → ℕ
 target_of is_plain ends = 0
 target_of is_if ends = nearest ends
 target_of is_else ends = nearest ends
@@ -56,7 +56,7 @@ target_of is_end ends = 0
 target_of is_while ends = nearest ends
 
 -- the ends in front of a statement at position n, where these are the ends behind it
-abbrev pub ends_before : ℕ → Kind → List ℕ → List ℕ
+abbrev pub ends_before : ℕ → BlockKind → List ℕ → List ℕ
 ends_before n is_plain ends = ends
 ends_before n is_if ends = farther ends
 ends_before n is_else ends = (n + 1) ∷ farther ends
@@ -92,7 +92,7 @@ back_at n zero (l ∷ ls) = led_back n l ∷ ls
 back_at n (suc place) (l ∷ ls) = l ∷ back_at n place ls
 
 -- the lines behind a statement at position n that leads to a target: the one in front of a `while`'s target leads back to it
-abbrev pub lines_behind : ℕ → Kind → ℕ → List Line → List Line
+abbrev pub lines_behind : ℕ → BlockKind → ℕ → List Line → List Line
 lines_behind n is_plain target ls = ls
 lines_behind n is_if target ls = ls
 lines_behind n is_else target ls = ls

@@ -11,7 +11,7 @@ use Rattle.rank_machine.specs.declared.fault.MachineFault.{MachineFault}
 use Rattle.rank_machine.specs.declared.want.Want.{Want}
 use Rattle.rank_machine.specs.declared.want.Want.TheVariants as want
 use Rattle.rank_machine.specs.Values.{Store, Valued, ◌>>=◌}
-use Rattle.rank_machine.specs.Collectives.{Call, called, part_of, is_last, counted, part_done, greatest_ordinal}
+use Rattle.rank_machine.specs.Collectives.{CollectiveCall, called, part_of, is_last, counted, part_done, greatest_ordinal}
 use Rattle.rank_machine.specs.Acts.{Message, with_variable, with_status}
 use Rattle.rank_machine.specs.Wants.{part_want, collective_want, or_fault, want_of}
 use Rattle.rank_machine.specs.Machine.{MachineValue, line_at, machine_want_at, machine_want, call_at, HasStage, IsAtLine, IsWithinLimits, IsMachine}
@@ -37,7 +37,7 @@ none_called s (while_line e q) n = refl
 none_called s (back_line q) n = refl
 
 -- so from there a rank goes on with no part done and nothing gathered, and can stand at each line
-goes_past : (s s' : Store) (l : Line) (o : Option Line) (o' : Option Call) → o ≡ Some l → IsNoCollectiveLine l → HasStage s (call_at s o)
+goes_past : (s s' : Store) (l : Line) (o : Option Line) (o' : Option CollectiveCall) → o ≡ Some l → IsNoCollectiveLine l → HasStage s (call_at s o)
     → s'.rank < s'.size → s'.done ≡ s.done → s'.gathered ≡ s.gathered → HasStage s' o'
 goes_past s s' l o o' at n h below d g =
     let h' : HasStage s None = subst (HasStage s) (ap (call_at s) at ∙ none_called s l n) h in
@@ -45,7 +45,7 @@ goes_past s s' l o o' at n h below d g =
     fresh s' o' below (d ∙ (omega (arith, z))) (ap length g ∙ h'.1)
 
 -- the call that stands has the stage of its machine
-pub call_stage : (s : Store) (c : Collective) (o : Option Line) (call : Call) → o ≡ Some (simple_line (collect c)) → called s c ≡ Ok call
+pub call_stage : (s : Store) (c : Collective) (o : Option Line) (call : CollectiveCall) → o ≡ Some (simple_line (collect c)) → called s c ≡ Ok call
     → HasStage s (call_at s o) → HasStage s (Some call)
 call_stage s c o call at e h =
     let f : call_at s o ≡ Some call = rw (at, e) refl in
@@ -54,13 +54,13 @@ call_stage s c o call at e h =
 -- what holds of what a collective asks for, and of no fault, holds of the part of a call
 pub record IsCalling (P : Want → Type 0) (m : MachineValue) (c : Collective) : Type 0 where
   pub fault : m.fault ≡ None
-  pub call : Call
+  pub call : CollectiveCall
   pub called : called m.store c ≡ Ok call
   pub part : P (or_fault (part_want m.store c call (part_of m.store call)))
 
 -- a collective that is wanted is called
-was_called : (P : Want → Type 0) (s : Store) (c : Collective) (v : Valued Call) → ((k : MachineFault) → P (want.Faulted k) → ⊥)
-    → P (or_fault (v >>= (λ call. part_want s c call (part_of s call)))) → (call : Call) × (v ≡ Ok call) × P (or_fault (part_want s c call (part_of s call)))
+was_called : (P : Want → Type 0) (s : Store) (c : Collective) (v : Valued CollectiveCall) → ((k : MachineFault) → P (want.Faulted k) → ⊥)
+    → P (or_fault (v >>= (λ call. part_want s c call (part_of s call)))) → (call : CollectiveCall) × (v ≡ Ok call) × P (or_fault (part_want s c call (part_of s call)))
 was_called P s c (Ok call) none h = (call, refl, h)
 was_called P s c (Err k) none h = absurd (none k h)
 
@@ -83,7 +83,7 @@ calls P m c h at none w =
     record { fault = k; call = call.0; called = call.1; part = call.2 }
 
 -- A collective whose part a machine makes: the line that stands, its call, that it can be counted, and that there is room behind it.
-pub record IsPart (m : MachineValue) (c : Collective) (call : Call) : Type 0 where
+pub record IsPart (m : MachineValue) (c : Collective) (call : CollectiveCall) : Type 0 where
   pub line : IsAtLine m
   pub there : line_at m ≡ Some (simple_line (collect c))
   pub called : called m.store c ≡ Ok call
@@ -91,7 +91,7 @@ pub record IsPart (m : MachineValue) (c : Collective) (call : Call) : Type 0 whe
   pub behind : m.position + 1 ≤ size (block_of m.program)
 
 -- the same machine as it was seen at the call
-pub seen_part : {m n : MachineValue} {c : Collective} {call : Call} {k : ℕ} → m ≡ n → IsAtLine n → line_at n ≡ Some (simple_line (collect c))
+pub seen_part : {m n : MachineValue} {c : Collective} {call : CollectiveCall} {k : ℕ} → m ≡ n → IsAtLine n → line_at n ≡ Some (simple_line (collect c))
     → n.position + 1 ≤ size (block_of n.program) → called m.store c ≡ Ok call → (k ≡ m.store.finished + 1) × (k ≤ greatest_ordinal) → IsPart m c call
 seen_part {m} v h at l e o =
     let Behind : MachineValue → Type 0 = λ z. z.position + 1 ≤ size (block_of z.program) in
@@ -148,7 +148,7 @@ passed_within m s false p i k f v a l =
     kept_within m (record s { done = s.done + 1 }) p i k.rank k.size k.source k.tag k.count (rw finished i.finished) v a l
 
 -- so a machine is within its limits after a part
-pub part_within : (m : MachineValue) (s : Store) (call : Call) (p : ℕ) → IsWithinLimits m → Leaves m.store s → m.store.finished + 1 ≤ greatest_ordinal
+pub part_within : (m : MachineValue) (s : Store) (call : CollectiveCall) (p : ℕ) → IsWithinLimits m → Leaves m.store s → m.store.finished + 1 ≤ greatest_ordinal
     → length (part_done s call).variables ≡ length m.store.variables → map length (part_done s call).arrays ≡ map length m.store.arrays
     → p ≤ size (block_of m.program) → IsWithinLimits (record m { store = part_done s call; position = p })
 part_within m s call p i k f v a l = passed_within m s (is_last s call) p i k f v a l
@@ -165,7 +165,7 @@ part_ahead true p n l = l
 part_ahead false p n l = omega (arith, l)
 
 -- the machine after a part, by whether it was the last
-pub part_is : (m : MachineValue) (s s' : Store) (call : Call) (last : Bool) → s ≡ s' → is_last m.store call ≡ last
+pub part_is : (m : MachineValue) (s s' : Store) (call : CollectiveCall) (last : Bool) → s ≡ s' → is_last m.store call ≡ last
     → (let a : MachineValue = record m { store = s; position = after_part last m.position } in
     let b : MachineValue = record m { store = s'; position = after_part (is_last m.store call) m.position } in
     a ≡ b)

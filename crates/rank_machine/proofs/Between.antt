@@ -12,7 +12,7 @@ use Rattle.rank_machine.specs.declared.fault.MachineFault.{MachineFault}
 use Rattle.rank_machine.specs.declared.want.Want.{Want}
 use Rattle.rank_machine.specs.declared.want.Want.TheVariants as want
 use Rattle.rank_machine.specs.Values.{Store, Valued, ◌>>=◌, value, rank_in}
-use Rattle.rank_machine.specs.Collectives.{Call, called, Part, gives, gets, ends, part_of, ended}
+use Rattle.rank_machine.specs.Collectives.{CollectiveCall, called, Part, gives, gets, ends, part_of, ended}
 use Rattle.rank_machine.specs.States.{item_value}
 use Rattle.rank_machine.specs.Wants.{tag_in, items_of, pattern_value, where_named, selector_of, part_want, collective_want, or_fault, want_of, wants}
 use Rattle.rank_machine.specs.Machine.{MachineValue, state_of, line_at, machine_want, IsShowing}
@@ -55,7 +55,7 @@ unasked (Ok x) f h = h x
 unasked (Err k) f h = tt
 
 -- a collective makes no probe
-part_between : (s : Store) (c : Collective) (call : Call) (p : Part) → IsBetween (or_fault (part_want s c call p))
+part_between : (s : Store) (c : Collective) (call : CollectiveCall) (p : Part) → IsBetween (or_fault (part_want s c call p))
 part_between s c call (gives d) = tt
 part_between s c call (gets q) = tt
 part_between s c call ends = unasked (ended s c call) _ (λ s'. tt)

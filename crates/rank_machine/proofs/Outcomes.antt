@@ -7,7 +7,7 @@ use Rattle.rank_language.specs.Placed.{barrier, broadcast, reduce, collect}
 use Rattle.rank_language.specs.Block.{Block, plain}
 use Rattle.rank_machine.specs.declared.fault.MachineFault.{MachineFault}
 use Rattle.rank_machine.specs.Values.{Store, Valued, ◌>>=◌}
-use Rattle.rank_machine.specs.Collectives.{Call, called, header, Part, gives, gets, ends, part_of, part_done, rest_after}
+use Rattle.rank_machine.specs.Collectives.{CollectiveCall, called, header, Part, gives, gets, ends, part_of, part_done, rest_after}
 use Rattle.rank_machine.specs.Collectives.{given_by, ended, unfaulted, ended_at, ended_by, own_end, stored_or}
 use Rattle.rank_machine.specs.States.{State, inner}
 use Rattle.rank_machine.specs.Wants.{or_fault, part_want}
@@ -19,11 +19,11 @@ abbrev pub standing : Store → statements.Collective → Block → State
 standing s c r = record { store = s; rest = plain (collect c) r; fault = None }
 
 -- after a part that was made
-abbrev pub gone : Store → Store → statements.Collective → Block → Call → State
+abbrev pub gone : Store → Store → statements.Collective → Block → CollectiveCall → State
 gone s s' c r call = record { store = part_done s' call; rest = rest_after s call (plain (collect c) r) r; fault = None }
 
 -- it gave
-pub record Gave (s : Store) (c : statements.Collective) (r : Block) (call : Call) (act : Act) (m : Option Message) (b : State) : Type 0 where
+pub record Gave (s : Store) (c : statements.Collective) (r : Block) (call : CollectiveCall) (act : Act) (m : Option Message) (b : State) : Type 0 where
   pub dest : ℕ
   pub part : part_of s call ≡ gives dest
   pub sent : act ≡ sends dest Collective 0 (header call ++ call.items)
@@ -31,7 +31,7 @@ pub record Gave (s : Store) (c : statements.Collective) (r : Block) (call : Call
   pub after : b ≡ gone s s c r call
 
 -- it got, from a packet of this call
-pub record Took (s : Store) (c : statements.Collective) (r : Block) (call : Call) (act : Act) (m : Option Message) (b : State) : Type 0 where
+pub record Took (s : Store) (c : statements.Collective) (r : Block) (call : CollectiveCall) (act : Act) (m : Option Message) (b : State) : Type 0 where
   pub source : ℕ
   pub place : ℕ
   pub message : Message
@@ -44,7 +44,7 @@ pub record Took (s : Store) (c : statements.Collective) (r : Block) (call : Call
   pub after : b ≡ gone s (kept c items s) c r call
 
 -- it got a packet that doesn't fit
-pub record Failed (s : Store) (c : statements.Collective) (r : Block) (call : Call) (act : Act) (m : Option Message) (b : State) : Type 0 where
+pub record Failed (s : Store) (c : statements.Collective) (r : Block) (call : CollectiveCall) (act : Act) (m : Option Message) (b : State) : Type 0 where
   pub fault : MachineFault
   pub source : ℕ
   pub place : ℕ
@@ -52,7 +52,7 @@ pub record Failed (s : Store) (c : statements.Collective) (r : Block) (call : Ca
   pub after : b ≡ record { store = s; rest = plain (collect c) r; fault = Some fault }
 
 -- one of the three
-abbrev pub Outcome : Store → statements.Collective → Block → Call → Act → Option Message → State → Type 0
+abbrev pub Outcome : Store → statements.Collective → Block → CollectiveCall → Act → Option Message → State → Type 0
 Outcome s c r call act m b = Gave s c r call act m b ⊎ (Took s c r call act m b ⊎ Failed s c r call act m b)
 
 -- what fits is left as it is
@@ -66,7 +66,7 @@ fitting_same s (broadcast e' b) vs ws e = by_test _ e
     by_test false e = cc
 
 -- a reception is one of this call, or fails
-takes_one : (s : Store) (c : statements.Collective) (r : Block) (call : Call) (q j : ℕ) (m : Message) → part_of s call ≡ gets q
+takes_one : (s : Store) (c : statements.Collective) (r : Block) (call : CollectiveCall) (q j : ℕ) (m : Message) → part_of s call ≡ gets q
     → m.context ≡ Collective → (v : Valued (List ℤ)) → given_by call m.items ≡ v
     → (w : Valued (List ℤ)) → (v >>= (λ items. fitting s c items)) ≡ w
     → (b : State) → b ≡ part_taken (standing s c r) c r call w → Outcome s c r call (takes q j) (Some m) b
@@ -89,7 +89,7 @@ takes_one s c r call q j m p x (Err k) e (Ok ws) g b h = absurd cc
 takes_one s c r call q j m p x (Err k) e (Err k') g b h = inr (inr (record { fault = k'; source = q; place = j; taken = refl; after = h }))
 
 -- the act that answers a part
-by_part : (s : Store) (c : statements.Collective) (r : Block) (call : Call) → called s c ≡ Ok call → (p : Part) → part_of s call ≡ p
+by_part : (s : Store) (c : statements.Collective) (r : Block) (call : CollectiveCall) → called s c ≡ Ok call → (p : Part) → part_of s call ≡ p
     → (act : Act) (m : Option Message) → Fits (or_fault (part_want s c call p)) (header call ++ call.items) act m
     → Outcome s c r call act m (next (standing s c r) act m)
 by_part s c r call e (gives d) p (sends d' c' t' items') None f =
@@ -110,12 +110,12 @@ by_part s c r call e (gets q) p (prints z) m f = absurd f
 by_part s c r call e ends p act m f = absurd (never (λ w. Fits w (header call ++ call.items) act m) (ended s c call) _ (λ k h. h) (λ x h. h) f)
 
 -- what an act of a collective makes
-pub made : (s : Store) (c : statements.Collective) (r : Block) (call : Call) → called s c ≡ Ok call → (act : Act) (m : Option Message)
+pub made : (s : Store) (c : statements.Collective) (r : Block) (call : CollectiveCall) → called s c ≡ Ok call → (act : Act) (m : Option Message)
     → Makes (standing s c r) act m → Outcome s c r call act m (next (standing s c r) act m)
 made s c r call e act m f = by_part s c r call e (part_of s call) refl act m (rw e at f)
 
 -- a step of its own ends it
-pub record Ended (s : Store) (c : statements.Collective) (r : Block) (call : Call) (b : State) : Type 0 where
+pub record Ended (s : Store) (c : statements.Collective) (r : Block) (call : CollectiveCall) (b : State) : Type 0 where
   pub store : Store
   pub part : part_of s call ≡ ends
   pub folded : ended s c call ≡ Ok store
@@ -127,7 +127,7 @@ unfaulted_ok (Ok y) x e = let same : y ≡ x = cc in ap Ok same
 unfaulted_ok (Err k) x e = absurd cc
 
 -- an end that is stored is one of a step of the rank's own
-end_part : (s : Store) (c : statements.Collective) (call : Call) (p : Part) (s' : Store) → ended_at s c call p ≡ Some s'
+end_part : (s : Store) (c : statements.Collective) (call : CollectiveCall) (p : Part) (s' : Store) → ended_at s c call p ≡ Some s'
     → (p ≡ ends) × (ended s c call ≡ Ok s')
 end_part s c call ends s' h = (refl, unfaulted_ok (ended s c call) s' h)
 end_part s c call (gives d) s' h = absurd cc
@@ -141,7 +141,7 @@ end_made s r (Some s') b h = (s', refl, (let q : record { store = s'; rest = r; 
 end_made s r None b h = absurd cc
 
 -- what an inner step of a collective makes
-pub ended_so : (s : Store) (c : statements.Collective) (r : Block) (call : Call) → called s c ≡ Ok call → (b : State)
+pub ended_so : (s : Store) (c : statements.Collective) (r : Block) (call : CollectiveCall) → called s c ≡ Ok call → (b : State)
     → inner (standing s c r) ≡ Some b → Ended s c r call b
 ended_so s c r call e b h =
     let m = end_made s r (own_end s c) b h in

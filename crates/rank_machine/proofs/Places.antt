@@ -3,7 +3,7 @@ use Rattle.std.proofs.Common.{◌≡◌, ℕ, zero, suc, ◌+◌, ◌<◌, List,
 use Rattle.std.proofs.lemmas.Bool.{eq-eqb, ne_eqb, cases_eq}
 use Rattle.std.proofs.lemmas.List.{length-append, length-map}
 use Rattle.rank_text.specs.declared.grammar.token.Reduction.{Reduction}
-use Rattle.rank_machine.specs.Collectives.{Kind, barriers, broadcasts, folds, Part, gives, gets, ends, others, parts, parts_among}
+use Rattle.rank_machine.specs.Collectives.{CollectiveKind, barriers, broadcasts, folds, Part, gives, gets, ends, others, parts, parts_among}
 use Rattle.rank_machine.proofs.CollectiveParts.{ends_behind, one_more, longer_at, mapped_at, gives_behind, length_others, other_place, within_at, ends_last}
 
 -- a list of one has one place
@@ -18,11 +18,11 @@ no_gets (x ∷ xs) zero q e = cc
 no_gets (x ∷ xs) (suc i) q e = no_gets xs i q e
 
 -- the parts with more than one rank, and with one
-pub many : (kind : Kind) (root n r : ℕ) → (n ≡ 1 → ⊥) → parts kind root n r ≡ parts_among kind root n r
+pub many : (kind : CollectiveKind) (root n r : ℕ) → (n ≡ 1 → ⊥) → parts kind root n r ≡ parts_among kind root n r
 many kind root n r ne = rw (ne_eqb n 1 ne) refl
 
 -- a single rank has nothing but the step of its own
-pub single : (kind : Kind) (root n r : ℕ) → n ≡ 1 → parts kind root n r ≡ ends ∷ []
+pub single : (kind : CollectiveKind) (root n r : ℕ) → n ≡ 1 → parts kind root n r ≡ ends ∷ []
 single kind root n r e = rw (eq-eqb n 1 e) refl
 
 -- A reception of a broadcast is its one part, and from its root.
@@ -130,7 +130,7 @@ ends_place (x ∷ xs) zero e = absurd cc
 ends_place (x ∷ xs) (suc i) e = ap suc (ends_place xs i e)
 
 -- A step of the rank's own is the last part.
-pub ends_is_last : (kind : Kind) (root n r i : ℕ) → slice_get (parts kind root n r) i ≡ Some ends → i + 1 ≡ length (parts kind root n r)
+pub ends_is_last : (kind : CollectiveKind) (root n r i : ℕ) → slice_get (parts kind root n r) i ≡ Some ends → i + 1 ≡ length (parts kind root n r)
 ends_is_last kind root n r i e = by_size (cases_eq n 1)
   where
     one : (i : ℕ) → slice_get (ends ∷ []) i ≡ Some ends → i + 1 ≡ 1
@@ -142,7 +142,7 @@ ends_is_last kind root n r i e = by_size (cases_eq n 1)
     two x y (suc zero) f = cc
     two x y (suc (suc i)) f = cc
 
-    of_kind : (kind : Kind) → slice_get (parts_among kind root n r) i ≡ Some ends → i + 1 ≡ length (parts_among kind root n r)
+    of_kind : (kind : CollectiveKind) → slice_get (parts_among kind root n r) i ≡ Some ends → i + 1 ≡ length (parts_among kind root n r)
     of_kind barriers f = absurd (at (cases_eq r 0))
       where
         at : (r ≡ 0) ⊎ (r ≡ 0 → ⊥) → ⊥

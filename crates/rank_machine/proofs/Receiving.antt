@@ -11,13 +11,13 @@ use Rattle.matching.specs.PacketValue.{IsPacketValue}
 use Rattle.rank_language.specs.Placed.{Buffer, into_variable, into_array, Pattern, receive, Collective, barrier, broadcast, reduce, collect}
 use Rattle.rank_language.specs.Block.{Block, plain, simple_line, remaining, size}
 use Rattle.rank_language.specs.Program.{block_of}
-use Rattle.rank_machine.specs.declared.call.Call as source_call
+use Rattle.rank_machine.specs.declared.call.CollectiveCall as source_call
 use Rattle.rank_machine.specs.declared.fault.MachineFault.{MachineFault}
 use Rattle.rank_machine.specs.declared.fault.MachineFault.TheVariants.{TooLong, CollectiveMismatch}
 use Rattle.rank_machine.specs.declared.want.Want.TheVariants as want
 use Rattle.rank_machine.specs.Faults.{IsLeft}
 use Rattle.rank_machine.specs.Values.{Store, Valued, ◌>>=◌}
-use Rattle.rank_machine.specs.Collectives.{Call, Part, gives, gets, ends, part_of, is_last, part_done, given_by, ended}
+use Rattle.rank_machine.specs.Collectives.{CollectiveCall, Part, gives, gets, ends, part_of, is_last, part_done, given_by, ended}
 use Rattle.rank_machine.specs.Calling.{head_of, call_of}
 use Rattle.rank_machine.specs.States.{State}
 use Rattle.rank_machine.specs.Wants.{selector_of, part_want, receive_want, or_fault, want_of}
@@ -169,7 +169,7 @@ fit_machine {m} {n} {c} {t} {b} {p} {s} v h i e a q l =
     subst Result (sym e) (plain_machine m S (simple_line (receive c t b)) (m.position + 1) h i.there tt shown (subst Behind (sym v) l))
 
 -- a part that asks for a reception gets
-gets_part : (s : Store) (c : Collective) (call : Call) (p : packet.PacketValue) (x : Part) → IsReceiving (or_fault (part_want s c call x)) p
+gets_part : (s : Store) (c : Collective) (call : CollectiveCall) (p : packet.PacketValue) (x : Part) → IsReceiving (or_fault (part_want s c call x)) p
     → (q : ℕ) × (x ≡ gets q)
 gets_part s c call p (gives d) h = absurd h
 gets_part s c call p (gets q) h = (q, refl)
@@ -182,24 +182,24 @@ pub takes_call : (m : MachineValue) (c : Collective) (p : packet.PacketValue) �
 takes_call m c p h at w = calls (λ w. IsReceiving w p) m c h at (λ k z. z) w
 
 -- A collective that takes a message: no fault, and its part gets.
-record IsGetting (m : MachineValue) (call : Call) : Type 0 where
+record IsGetting (m : MachineValue) (call : CollectiveCall) : Type 0 where
   fault : m.fault ≡ None
   source : ℕ
   part : part_of m.store call ≡ gets source
 
 -- a machine that asks for a message at a collective has no fault, and its part gets
-getting : (m n : MachineValue) (c : Collective) (call : Call) (p : packet.PacketValue) → m ≡ n → IsPart m c call
+getting : (m n : MachineValue) (c : Collective) (call : CollectiveCall) (p : packet.PacketValue) → m ≡ n → IsPart m c call
     → IsReceiving (machine_want n) p → IsGetting m call
 getting m n c call p v i w =
     let P : MachineValue → Type 0 = λ z. IsReceiving (machine_want z) p in
     let a = takes_call m c p i.line i.there (subst P (sym v) w) in
     let same : a.call ≡ call = (let q : Ok a.call ≡ Ok call = sym a.called ∙ i.called in cc) in
-    let Q : Call → Type 0 = λ z. IsReceiving (or_fault (part_want m.store c z (part_of m.store z))) p in
+    let Q : CollectiveCall → Type 0 = λ z. IsReceiving (or_fault (part_want m.store c z (part_of m.store z))) p in
     let g = gets_part m.store c call p (part_of m.store call) (subst Q same a.part) in
     record { fault = a.fault; source = g.0; part = g.1 }
 
 -- the state after it
-collects : (m : MachineValue) (c : Collective) (call : Call) (p : packet.PacketValue) (place : ℕ) → IsPart m c call → m.fault ≡ None →
+collects : (m : MachineValue) (c : Collective) (call : CollectiveCall) (p : packet.PacketValue) (place : ℕ) → IsPart m c call → m.fault ≡ None →
     part_taken (state_of m) c (remaining (block_of m.program) (m.position + 1)) call (items_taken m.store c call p.items)
     ≡ next (state_of m) (takes p.source place) (Some (carried p))
 collects m c call p place i f =
@@ -208,18 +208,18 @@ collects m c call p place i f =
     let r : Block = remaining (block_of m.program) (m.position + 1) in
     let F : Option MachineFault → State = λ k. unless_faulted k a act (Some (carried p)) in
     let R : Block → State = λ r. after_first a r act (Some (carried p)) in
-    let C : Valued Call → State = λ v. collected a c r (carried p) v in
+    let C : Valued CollectiveCall → State = λ v. collected a c r (carried p) v in
     sym (ap F f ∙ ap R (i.line.leads (simple_line (collect c)) i.there) ∙ ap C i.called)
 
 -- what a packet gives is by the header of its call alone
-head_given : (s : Store) (c : Collective) (k : source_call.Call) (items : List ℤ) → given_by (head_of k) items ≡ given_by (call_of s c k) items
+head_given : (s : Store) (c : Collective) (k : source_call.CollectiveCall) (items : List ℤ) → given_by (head_of k) items ≡ given_by (call_of s c k) items
 head_given s c k [] = refl
 head_given s c k (x ∷ []) = refl
 head_given s c k (x ∷ (y ∷ [])) = refl
 head_given s c k (x ∷ (y ∷ (z ∷ items))) = refl
 
 -- and so are the items that are taken of its payload
-pub head_taken : (s : Store) (c : Collective) (k : source_call.Call) {payload : List ℤ} {p q : packet.PacketValue} {v : Valued (List ℤ)}
+pub head_taken : (s : Store) (c : Collective) (k : source_call.CollectiveCall) {payload : List ℤ} {p q : packet.PacketValue} {v : Valued (List ℤ)}
     → payload ≡ p.items → p ≡ q → items_taken s c (head_of k) payload ≡ v → items_taken s c (call_of s c k) q.items ≡ v
 head_taken s c k {payload} {p} {q} {v} same seen e =
     let F : Valued (List ℤ) → Valued (List ℤ) = λ w. w >>= (λ items. fitting s c items) in
@@ -228,13 +228,13 @@ head_taken s c k {payload} {p} {q} {v} same seen e =
     sym (ap F (head_given s c k q.items)) ∙ subst Taken (same ∙ ap Items seen) e
 
 -- items that fit are left as they are, so those that are taken were given
-taken_given : (s : Store) (c : Collective) (call : Call) (packet items : List ℤ) → items_taken s c call packet ≡ Ok items → given_by call packet ≡ Ok items
+taken_given : (s : Store) (c : Collective) (call : CollectiveCall) (packet items : List ℤ) → items_taken s c call packet ≡ Ok items → given_by call packet ≡ Ok items
 taken_given s c call packet items e =
     let x = bound_ok (given_by call packet) _ items e in
     x.1 ∙ ap Ok (sym (fitting_same s c x.0 items x.2))
 
 -- what a packet that isn't taken leaves as a fault
-mismatched : (call : Call) (packet : List ℤ) (k : MachineFault) → given_by call packet ≡ Err k → IsLeft (Some k)
+mismatched : (call : CollectiveCall) (packet : List ℤ) (k : MachineFault) → given_by call packet ≡ Err k → IsLeft (Some k)
 mismatched call [] k e = (let q : CollectiveMismatch ≡ k = cc in subst (λ z. IsLeft (Some z)) q tt)
 mismatched call (x ∷ []) k e = (let q : CollectiveMismatch ≡ k = cc in subst (λ z. IsLeft (Some z)) q tt)
 mismatched call (x ∷ (y ∷ [])) k e = (let q : CollectiveMismatch ≡ k = cc in subst (λ z. IsLeft (Some z)) q tt)
@@ -255,7 +255,7 @@ unfit s (broadcast x b) xs k e = by_test _ e
 unfit s (reduce f x v p) xs k e = absurd cc
 
 -- so a packet is refused by its header or for items that don't fit
-refused : (s : Store) (c : Collective) (call : Call) (packet : List ℤ) (v : Valued (List ℤ)) (k : MachineFault) → given_by call packet ≡ v
+refused : (s : Store) (c : Collective) (call : CollectiveCall) (packet : List ℤ) (v : Valued (List ℤ)) (k : MachineFault) → given_by call packet ≡ v
     → (v >>= (λ items. fitting s c items)) ≡ Err k → IsLeft (Some k)
 refused s c call packet (Ok xs) k g e = unfit s c xs k e
 refused s c call packet (Err j) k g e =
@@ -263,7 +263,7 @@ refused s c call packet (Err j) k g e =
     mismatched call packet k (g ∙ ap Err q)
 
 -- after a packet that isn't taken it is a machine, with a fault that an act may leave
-pub refused_machine : (m : MachineValue) (c : Collective) (call : Call) (packet : List ℤ) (k : MachineFault) (s : Store) → IsMachine m
+pub refused_machine : (m : MachineValue) (c : Collective) (call : CollectiveCall) (packet : List ℤ) (k : MachineFault) (s : Store) → IsMachine m
     → items_taken m.store c call packet ≡ Err k → s ≡ m.store → IsMachine (record m { store = s; fault = Some k })
 refused_machine m c call packet k s i e g =
     let P : Store → Type 0 = λ z. IsMachine (record m { store = z; fault = Some k }) in
@@ -285,7 +285,7 @@ refused_machine m c call packet k s i e g =
     })
 
 -- and it stands for the state after that
-pub refused_state : {m n : MachineValue} {c : Collective} {call : Call} (p : packet.PacketValue) {k : MachineFault} {s : Store} → m ≡ n → IsPart m c call
+pub refused_state : {m n : MachineValue} {c : Collective} {call : CollectiveCall} (p : packet.PacketValue) {k : MachineFault} {s : Store} → m ≡ n → IsPart m c call
     → IsReceiving (machine_want n) p → items_taken m.store c call p.items ≡ Err k → s ≡ m.store
     → (place : ℕ) → state_of (record m { store = s; fault = Some k }) ≡ next (state_of n) (takes p.source place) (Some (carried p))
 refused_state {m} {n} {c} {call} p {k} {s} v i w e g place =
@@ -304,7 +304,7 @@ leaves (broadcast e b) items s = (writes b items s).left
 leaves (reduce f e v p) items s = record { rank = refl; size = refl; source = refl; tag = refl; count = refl; finished = refl }
 
 -- after a packet that is taken it is a machine
-pub taken_machine : {m n : MachineValue} {c : Collective} {call : Call} (p : packet.PacketValue) {items : List ℤ} {s : Store} {last : Bool}
+pub taken_machine : {m n : MachineValue} {c : Collective} {call : CollectiveCall} (p : packet.PacketValue) {items : List ℤ} {s : Store} {last : Bool}
     → m ≡ n → IsMachine m
     → IsPart m c call → IsReceiving (machine_want n) p → items_taken m.store c call p.items ≡ Ok items → s ≡ part_done (kept c items m.store) call
     → length s.variables ≡ length m.store.variables → map length s.arrays ≡ map length m.store.arrays → is_last m.store call ≡ last
@@ -326,7 +326,7 @@ taken_machine {m} {n} {c} {call} p {items} {s} {last} v h i w e g variables leng
     subst IsMachine (sym (part_is m s S call last g f)) there
 
 -- and it stands for the state after that
-pub taken_state : {m n : MachineValue} {c : Collective} {call : Call} (p : packet.PacketValue) {items : List ℤ} {s : Store} {last : Bool} → m ≡ n
+pub taken_state : {m n : MachineValue} {c : Collective} {call : CollectiveCall} (p : packet.PacketValue) {items : List ℤ} {s : Store} {last : Bool} → m ≡ n
     → IsPart m c call → IsReceiving (machine_want n) p → items_taken m.store c call p.items ≡ Ok items → s ≡ part_done (kept c items m.store) call
     → is_last m.store call ≡ last → (place : ℕ)
     → state_of (record m { store = s; position = after_part last m.position }) ≡ next (state_of n) (takes p.source place) (Some (carried p))

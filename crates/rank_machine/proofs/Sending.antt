@@ -3,7 +3,7 @@ use Rattle.std.proofs.Common.{◌≡◌, ℕ, Bool, Ok, Option, Some, length, ma
 use Rattle.rank_language.specs.Placed.{Collective, collect}
 use Rattle.rank_language.specs.Block.{simple_line}
 use Rattle.rank_machine.specs.Values.{Store}
-use Rattle.rank_machine.specs.Collectives.{Call, Part, gives, gets, ends, part_of, is_last, part_done, ended}
+use Rattle.rank_machine.specs.Collectives.{CollectiveCall, Part, gives, gets, ends, part_of, is_last, part_done, ended}
 use Rattle.rank_machine.specs.Wants.{IsSend, part_want, or_fault}
 use Rattle.rank_machine.specs.Acts.{Act, Message, Makes, next}
 use Rattle.rank_machine.specs.Machine.{MachineValue, state_of, line_at, machine_want, IsAtLine, IsMachine}
@@ -13,7 +13,7 @@ use Rattle.rank_machine.proofs.Stages.{sent_stage}
 use Rattle.rank_machine.proofs.Acting.{IsCalling, calls, call_stage, IsPart, Leaves, part_within, passed_same, part_ahead, part_is, same_line}
 
 -- a part that asks for a send gives
-gives_part : (s : Store) (c : Collective) (call : Call) (p : Part) → IsSend (or_fault (part_want s c call p)) → (d : ℕ) × (p ≡ gives d)
+gives_part : (s : Store) (c : Collective) (call : CollectiveCall) (p : Part) → IsSend (or_fault (part_want s c call p)) → (d : ℕ) × (p ≡ gives d)
 gives_part s c call (gives d) h = (d, refl)
 gives_part s c call (gets q) h = absurd h
 gives_part s c call ends h = absurd (never IsSend (ended s c call) _ (λ k z. z) (λ s' z. z) h)
@@ -23,15 +23,15 @@ pub sends_call : (m : MachineValue) (c : Collective) → IsAtLine m → line_at 
 sends_call m c h at w = calls IsSend m c h at (λ k z. z) w
 
 -- one that gives
-gives_call : (m : MachineValue) (c : Collective) (call : Call) → IsPart m c call → IsSend (machine_want m) → (d : ℕ) × (part_of m.store call ≡ gives d)
+gives_call : (m : MachineValue) (c : Collective) (call : CollectiveCall) → IsPart m c call → IsSend (machine_want m) → (d : ℕ) × (part_of m.store call ≡ gives d)
 gives_call m c call p w =
     let a = sends_call m c p.line p.there w in
     let same : a.call ≡ call = (let q : Ok a.call ≡ Ok call = sym a.called ∙ p.called in cc) in
-    let P : Call → Type 0 = λ z. IsSend (or_fault (part_want m.store c z (part_of m.store z))) in
+    let P : CollectiveCall → Type 0 = λ z. IsSend (or_fault (part_want m.store c z (part_of m.store z))) in
     gives_part m.store c call (part_of m.store call) (subst P same a.part)
 
 -- after the send it is a machine
-sent_machine : (m : MachineValue) (c : Collective) (call : Call) → IsMachine m → IsPart m c call → IsSend (machine_want m)
+sent_machine : (m : MachineValue) (c : Collective) (call : CollectiveCall) → IsMachine m → IsPart m c call → IsSend (machine_want m)
     → IsMachine (record m { store = part_done m.store call; position = after_part (is_last m.store call) m.position })
 sent_machine m c call i p w =
     let s = m.store in
@@ -47,7 +47,7 @@ sent_machine m c call i p w =
     }
 
 -- with this store, and by whether the part was the last
-pub sent_is_machine : {m n : MachineValue} {c : Collective} {call : Call} {s : Store} {last : Bool} → m ≡ n → IsMachine m → IsPart m c call
+pub sent_is_machine : {m n : MachineValue} {c : Collective} {call : CollectiveCall} {s : Store} {last : Bool} → m ≡ n → IsMachine m → IsPart m c call
     → IsSend (machine_want n)
     → s ≡ part_done m.store call → is_last m.store call ≡ last → IsMachine (record m { store = s; position = after_part last m.position })
 sent_is_machine {m} {n} {c} {call} {s} {last} v i p w e f =
@@ -55,7 +55,7 @@ sent_is_machine {m} {n} {c} {call} {s} {last} v i p w e f =
     subst IsMachine (sym (part_is m s (part_done m.store call) call last e f)) (sent_machine m c call i p (subst P (sym v) w))
 
 -- and it stands for the state after the send
-pub sent_state : {m n : MachineValue} {c : Collective} {call : Call} {s : Store} {last : Bool} → m ≡ n → IsPart m c call → IsSend (machine_want n)
+pub sent_state : {m n : MachineValue} {c : Collective} {call : CollectiveCall} {s : Store} {last : Bool} → m ≡ n → IsPart m c call → IsSend (machine_want n)
     → s ≡ part_done m.store call → is_last m.store call ≡ last
     → (act : Act) (message : Option Message) → Makes (state_of n) act message
     → state_of (record m { store = s; position = after_part last m.position }) ≡ next (state_of n) act message

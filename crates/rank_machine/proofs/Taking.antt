@@ -5,7 +5,7 @@ use Rattle.std.specs.Prelude.{◌==◌}
 use Rattle.rank_text.specs.declared.grammar.token.Reduction.{Reduction}
 use Rattle.rank_language.specs.Placed.{Collective, barrier, broadcast, reduce}
 use Rattle.rank_machine.specs.Values.{Store}
-use Rattle.rank_machine.specs.Collectives.{Call, folds, called, given_by, parts}
+use Rattle.rank_machine.specs.Collectives.{CollectiveCall, folds, called, given_by, parts}
 use Rattle.rank_machine.specs.Calling.{HasRoom}
 use Rattle.rank_machine.specs.Machine.{HasStage, gathered_by}
 use Rattle.rank_machine.proofs.Places.{reduce_length}
@@ -25,7 +25,7 @@ few f root n r parts_done g l d e = at (cases_eq root r)
     at (inr q) = let z : length g ≡ 0 = rw (ne_eqb root r q) at e in omega (arith, z, l)
 
 -- a packet of the collective that stands gives a reduce one value, and there is room for it
-pub has_room : (s : Store) (c : Collective) (call : Call) (packet items : List ℤ) → s.rank < s.size → called s c ≡ Ok call
+pub has_room : (s : Store) (c : Collective) (call : CollectiveCall) (packet items : List ℤ) → s.rank < s.size → called s c ≡ Ok call
     → HasStage s (Some call) → given_by call packet ≡ Ok items → HasRoom s c items
 has_room s barrier call packet items l e stage given = tt
 has_room s (broadcast x b) call packet items l e stage given = tt

@@ -1,15 +1,15 @@
 -- Collectives as the code calls them, as the definitions see them.
 use Rattle.std.specs.Prelude.{◌≡◌, ℕ, ◌<◌, ℤ, List, [], ◌∷◌, length, Ok, Err, Result}
 use Rattle.rank_language.specs.Placed.{Collective, barrier, broadcast, reduce}
-use Rattle.rank_machine.specs.declared.call.Kind as source_kind
-use Rattle.rank_machine.specs.declared.call.Call as source_call
+use Rattle.rank_machine.specs.declared.call.CollectiveKind as source_kind
+use Rattle.rank_machine.specs.declared.call.CollectiveCall as source_call
 use Rattle.rank_machine.specs.declared.call.Part as source_part
 use Rattle.rank_machine.specs.declared.fault.MachineFault.{MachineFault}
 use Rattle.rank_machine.specs.Values.{Store, Valued}
-use Rattle.rank_machine.specs.Collectives.{Kind, barriers, broadcasts, folds, Call, given, Part, gives, gets, ends}
+use Rattle.rank_machine.specs.Collectives.{CollectiveKind, barriers, broadcasts, folds, CollectiveCall, given, Part, gives, gets, ends}
 
 -- what a collective does
-abbrev pub kind_of : source_kind.Kind → Kind
+abbrev pub kind_of : source_kind.CollectiveKind → CollectiveKind
 kind_of source_kind.TheVariants.Barrier = barriers
 kind_of source_kind.TheVariants.Broadcast = broadcasts
 kind_of (source_kind.TheVariants.Reduce f) = folds f
@@ -27,21 +27,21 @@ IsPartBelow size (source_part.TheVariants.Gets source) = source < size
 IsPartBelow size source_part.TheVariants.Ends = Unit {0}
 
 -- a call without the items that the rank gives
-abbrev pub head_of : source_call.Call → Call
+abbrev pub head_of : source_call.CollectiveCall → CollectiveCall
 head_of c = record { kind = kind_of c.kind; root = c.root; ordinal = c.ordinal; items = [] }
 
 -- the items that a rank gives that called this collective so
-abbrev pub items_given : Store → Collective → source_call.Call → List ℤ
+abbrev pub items_given : Store → Collective → source_call.CollectiveCall → List ℤ
 items_given s barrier c = []
 items_given s (broadcast e b) c = given s c.root b
 items_given s (reduce f e v p) c = c.value ∷ []
 
 -- a call with them
-abbrev pub call_of : Store → Collective → source_call.Call → Call
+abbrev pub call_of : Store → Collective → source_call.CollectiveCall → CollectiveCall
 call_of s x c = record { kind = kind_of c.kind; root = c.root; ordinal = c.ordinal; items = items_given s x c }
 
 -- a call, or the fault of its evaluation
-abbrev pub called_seen : Store → Collective → Result source_call.Call MachineFault → Valued Call
+abbrev pub called_seen : Store → Collective → Result source_call.CollectiveCall MachineFault → Valued CollectiveCall
 called_seen s x (Ok c) = Ok (call_of s x c)
 called_seen s x (Err k) = Err k
 

@@ -13,13 +13,13 @@ use Rattle.rank_machine.specs.declared.fault.MachineFault.TheVariants.{Overflow,
 use Rattle.rank_machine.specs.Values.{Store, Valued, ◌>>=◌, value, in_range, rank_in}
 
 -- what a collective does, without its arguments
-pub data Kind : Type 0 where
-  barriers : Kind
-  broadcasts : Kind
-  folds : (reduction : Reduction) → Kind
+pub data CollectiveKind : Type 0 where
+  barriers : CollectiveKind
+  broadcasts : CollectiveKind
+  folds : (reduction : Reduction) → CollectiveKind
 
 -- the number of a kind in packets
-abbrev pub kind_number : Kind → ℕ
+abbrev pub kind_number : CollectiveKind → ℕ
 kind_number barriers = 0
 kind_number broadcasts = 1
 kind_number (folds Sum) = 2
@@ -28,8 +28,8 @@ kind_number (folds Min) = 4
 
 -- A collective as a rank calls it: its kind, its root, its ordinal among the collectives of the
 -- rank, and the items that the rank gives.
-pub record Call : Type 0 where
-  pub kind : Kind
+pub record CollectiveCall : Type 0 where
+  pub kind : CollectiveKind
   pub root : ℕ
   pub ordinal : ℕ
   pub items : List ℤ
@@ -53,7 +53,7 @@ given s root b = if root == s.rank then contents s b else []
 
 -- Root and value are evaluated in this order; then the root is looked at, and then the ordinal. A
 -- barrier's root is 0.
-abbrev pub called : Store → Collective → Valued Call
+abbrev pub called : Store → Collective → Valued CollectiveCall
 called s barrier =
     ordinal_after s.finished >>= (λ k. Ok (record { kind = barriers; root = 0; ordinal = k; items = [] }))
 called s (broadcast e b) = do
@@ -82,26 +82,26 @@ others r from (suc count) = if from == r then others r (from + 1) count else fro
 -- The parts of rank r of n, two or more. The root of a barrier hears of all others and then tells
 -- them; the root of a broadcast tells all others; the root of a reduce hears of all others and ends
 -- with a step of its own, the fold.
-abbrev pub parts_among : Kind → ℕ → ℕ → ℕ → List Part
+abbrev pub parts_among : CollectiveKind → ℕ → ℕ → ℕ → List Part
 parts_among barriers root n r =
     if r == 0 then map gets (others 0 0 n) ++ map gives (others 0 0 n) else gives 0 ∷ gets 0 ∷ []
 parts_among broadcasts root n r = if r == root then map gives (others r 0 n) else gets root ∷ []
 parts_among (folds f) root n r = if r == root then map gets (others r 0 n) ++ ends ∷ [] else gives root ∷ []
 
 -- with one rank a collective is a step of the rank's own
-abbrev pub parts : Kind → ℕ → ℕ → ℕ → List Part
+abbrev pub parts : CollectiveKind → ℕ → ℕ → ℕ → List Part
 parts kind root n r = if n == 1 then ends ∷ [] else parts_among kind root n r
 
 -- the parts of a call of the rank that stores this
-abbrev pub parts_of : Store → Call → List Part
+abbrev pub parts_of : Store → CollectiveCall → List Part
 parts_of s call = parts call.kind call.root s.size s.rank
 
 -- the part that stands
-abbrev pub part_of : Store → Call → Part
+abbrev pub part_of : Store → CollectiveCall → Part
 part_of s call = slice_index_or (parts_of s call) s.done ends
 
 -- it is the last one
-abbrev pub is_last : Store → Call → Bool
+abbrev pub is_last : Store → CollectiveCall → Bool
 is_last s call = s.done + 1 == length (parts_of s call)
 
 -- a finished collective is counted, and none is under way
@@ -109,19 +109,19 @@ abbrev pub counted : Store → Store
 counted s = record s { finished = s.finished + 1; done = 0; gathered = [] }
 
 -- what is stored after a part
-abbrev pub part_done : Store → Call → Store
+abbrev pub part_done : Store → CollectiveCall → Store
 part_done s call = if is_last s call then counted s else record s { done = s.done + 1 }
 
 -- the statements that remain after a part: those behind the collective, after its last
-abbrev pub rest_after : Store → Call → Block → Block → Block
+abbrev pub rest_after : Store → CollectiveCall → Block → Block → Block
 rest_after s call whole behind = if is_last s call then behind else whole
 
 -- what packets of a call begin with
-abbrev pub header : Call → List ℤ
+abbrev pub header : CollectiveCall → List ℤ
 header call = pos (kind_number call.kind) ∷ pos call.root ∷ pos call.ordinal ∷ []
 
 -- packets of a barrier give nothing, those of a reduce one value
-abbrev pub is_counted : Kind → List ℤ → Bool
+abbrev pub is_counted : CollectiveKind → List ℤ → Bool
 is_counted barriers [] = true
 is_counted barriers (v ∷ vs) = false
 is_counted broadcasts items = true
@@ -130,7 +130,7 @@ is_counted (folds f) (v ∷ []) = true
 is_counted (folds f) (v ∷ (w ∷ vs)) = false
 
 -- the items that a packet gives, if it is one of this call
-abbrev pub given_by : Call → List ℤ → Valued (List ℤ)
+abbrev pub given_by : CollectiveCall → List ℤ → Valued (List ℤ)
 given_by call [] = Err CollectiveMismatch
 given_by call (x ∷ []) = Err CollectiveMismatch
 given_by call (x ∷ (y ∷ [])) = Err CollectiveMismatch
@@ -162,7 +162,7 @@ with_at place own items = take place items ++ own ++ drop place items
 
 -- what is stored after the rank's own step: the root of a reduce folds all values, its own at its
 -- place, into its variable
-abbrev pub ended : Store → Collective → Call → Valued Store
+abbrev pub ended : Store → Collective → CollectiveCall → Valued Store
 ended s barrier call = Ok (counted s)
 ended s (broadcast e b) call = Ok (counted s)
 ended s (reduce f e v p) call =
@@ -175,13 +175,13 @@ unfaulted (Ok x) = Some x
 unfaulted (Err k) = None
 
 -- what is stored after this part, if it is a step of the rank's own that doesn't fault
-abbrev pub ended_at : Store → Collective → Call → Part → Option Store
+abbrev pub ended_at : Store → Collective → CollectiveCall → Part → Option Store
 ended_at s c call (gives dest) = None
 ended_at s c call (gets source) = None
 ended_at s c call ends = unfaulted (ended s c call)
 
 -- what is stored after the part that stands, if it is such a step
-abbrev pub ended_by : Store → Collective → Valued Call → Option Store
+abbrev pub ended_by : Store → Collective → Valued CollectiveCall → Option Store
 ended_by s c (Ok call) = ended_at s c call (part_of s call)
 ended_by s c (Err k) = None
 

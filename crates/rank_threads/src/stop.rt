@@ -10,14 +10,14 @@ use std::sync::{OnceToken, Wait};
 /// All ranks are told to leave: their flag is set, which the token alone shows. It
 /// must be spent, and only `Tally::refuse` can: who tells them notes why, so that
 /// the run has no report.
-pub struct Stop<'a> {
+pub struct StopToken<'a> {
     flag: OnceToken<'a, ()>,
     why: NodeFault,
 }
 
 /// All ranks were told to leave: their flag is set, which the token alone shows.
 #[derive(Drop)]
-pub struct Stopped<'a> {
+pub struct ToldToLeave<'a> {
     flag: OnceToken<'a, ()>,
 }
 
@@ -45,31 +45,31 @@ impl OutOfTurns {
 impl<'a, H> Shared<'a, H> {
     /// All ranks are to leave, as one can't go on. The call that notes a fault of
     /// a rank takes what this answers, which must be spent.
-    pub fn stop_all<W: Wait>(&self, rt: &W, why: NodeFault) -> Stop<'a>
+    pub fn stop_all<W: Wait>(&self, rt: &W, why: NodeFault) -> StopToken<'a>
         ensures set { result.flag.of ≡ self.now.stop.now.id }
         ensures why { result.why ≡ why }
     {
         let stop = self.stop;
         let flag = stop.init(rt, || ());
-        Stop { flag, why }
+        StopToken { flag, why }
     }
 
     /// All ranks are to leave, as the turns of their schedule are used up.
-    pub fn end_all<W: Wait>(&self, rt: &W, _: &OutOfTurns) -> Stopped<'a>
+    pub fn end_all<W: Wait>(&self, rt: &W, _: &OutOfTurns) -> ToldToLeave<'a>
         ensures set { result.flag.of ≡ self.now.stop.now.id }
     {
         let stop = self.stop;
         let told = stop.init(rt, || ());
-        Stopped { flag: told }
+        ToldToLeave { flag: told }
     }
 
     /// Whether all ranks are to leave.
-    pub fn stopped(&self) -> Option<Stopped<'a>>
+    pub fn stopped(&self) -> Option<ToldToLeave<'a>>
         ensures set { IfSome result (λ stopped. stopped.flag.of ≡ self.now.stop.now.id) }
     {
         let stop = self.stop;
         match stop.witness() {
-            Some(flag) => Some(Stopped { flag }),
+            Some(flag) => Some(ToldToLeave { flag }),
             None => None,
         }
     }
@@ -77,12 +77,12 @@ impl<'a, H> Shared<'a, H> {
 
 impl Tally {
     /// The rank can't go on, and all were told to leave.
-    pub fn refuse<'s>(&mut self, stop: Stop<'s>) -> Stopped<'s>
+    pub fn refuse<'s>(&mut self, stop: StopToken<'s>) -> ToldToLeave<'s>
         ensures fault { self.new ≡ record self.old { fault = Some stop.entry.why } }
         ensures set { result.flag.of ≡ stop.entry.flag.of }
     {
-        let Stop { flag, why } = stop;
+        let StopToken { flag, why } = stop;
         self.fault = Some(why);
-        Stopped { flag }
+        ToldToLeave { flag }
     }
 }

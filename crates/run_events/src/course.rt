@@ -1,7 +1,7 @@
 //! A world that is led along a run, and the events that it took.
 
 use crate::fault::PlayFault;
-use crate::lives::Life;
+use crate::lives::LedRank;
 use crate::looks::{clock_of, is_known};
 use crate::used::used_lines;
 use limits::{Heap, MOST_EVENT_LINES};
@@ -13,7 +13,7 @@ use world_model::{Reply, World, WorldEvent};
 #[derive(Drop)]
 pub struct Course {
     events: Vec<WorldEvent, Heap>,
-    pub lives: Vec<Life, Heap>,
+    pub lives: Vec<LedRank, Heap>,
     /// Why it can't be led further; then the world is given nothing more.
     room: Result<(), PlayFault>,
 }
@@ -30,7 +30,7 @@ impl Course {
         let mut lives = Vec::new(alloc);
         for rank in 0..ranks {
             let lines = used_lines(alloc, script, unused, rank)?;
-            lives.push(Life::new(lines))?;
+            lives.push(LedRank::new(lines))?;
         }
         Ok(Course {
             events: Vec::new(alloc),

@@ -6,7 +6,7 @@ use std::alloc::AllocError;
 
 /// What is known of a rank while a world is led along a run.
 #[derive(Drop)]
-pub struct Life {
+pub struct LedRank {
     /// The lines of the script that it is to use, and how many it used.
     lines: Vec<ScriptLine, Heap>,
     used: usize,
@@ -17,10 +17,10 @@ pub struct Life {
     begin: usize,
 }
 
-impl Life {
+impl LedRank {
     /// A rank at its beginning, which is to use these lines of a script.
-    pub fn new(lines: Vec<ScriptLine, Heap>) -> Life {
-        Life {
+    pub fn new(lines: Vec<ScriptLine, Heap>) -> LedRank {
+        LedRank {
             lines,
             used: 0,
             arrived: [0; MOST_RANKS],

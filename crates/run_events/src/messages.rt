@@ -17,7 +17,7 @@ pub struct Message {
 
 // The messages of one rank to another, the first one first.
 #[derive(Drop)]
-struct Lane {
+struct MessageLane {
     messages: Vec<Message, Heap>,
     /// How many of the first ones are taken.
     taken: usize,
@@ -26,7 +26,7 @@ struct Lane {
 /// All messages of a run.
 #[derive(Drop)]
 pub struct Messages {
-    lanes: Vec<Lane, Heap>,
+    lanes: Vec<MessageLane, Heap>,
 }
 
 fn lane_of(source: u8, dest: u8) -> usize {
@@ -36,10 +36,10 @@ fn lane_of(source: u8, dest: u8) -> usize {
 }
 
 // A lane from each rank to each.
-fn lanes_of(alloc: Heap) -> Result<Vec<Lane, Heap>, AllocError> {
+fn lanes_of(alloc: Heap) -> Result<Vec<MessageLane, Heap>, AllocError> {
     let mut lanes = Vec::new(alloc);
     for _ in 0..MOST_RANKS * MOST_RANKS {
-        lanes.push(Lane {
+        lanes.push(MessageLane {
             messages: Vec::new(alloc),
             taken: 0,
         })?;
@@ -131,7 +131,7 @@ impl Messages {
     }
 }
 
-impl Lane {
+impl MessageLane {
     fn take(&mut self, place: u64) {
         if let Some(message) = self.messages.get_mut(index_of(place)) {
             message.taken = true;

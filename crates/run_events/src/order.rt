@@ -14,7 +14,7 @@ pub struct Happening {
 
 // How far an order has come with something that happens.
 #[derive(Clone, Copy)]
-enum Stage {
+enum OrderStage {
     Open,
     /// It stands in the order once what comes before it does.
     Begun,
@@ -23,14 +23,14 @@ enum Stage {
 
 // Something that happens, and the first wait of it that wasn't looked at.
 #[derive(Clone, Copy)]
-struct Point {
-    stage: Stage,
+struct HappeningState {
+    stage: OrderStage,
     wait: Option<usize>,
 }
 
 // That something waits for this, and the wait of it to look at next.
 #[derive(Clone, Copy)]
-struct Wait {
+struct Dependency {
     before: Happening,
     next: Option<usize>,
 }
@@ -39,8 +39,8 @@ struct Wait {
 #[derive(Drop)]
 pub struct Dependencies {
     // of each act, and behind it of the arrival of what it sends
-    points: Vec<Point, Heap>,
-    waits: Vec<Wait, Heap>,
+    points: Vec<HappeningState, Heap>,
+    waits: Vec<Dependency, Heap>,
     // what is begun, each for the sake of the one below it
     begun: Vec<Happening, Heap>,
     order: Vec<Happening, Heap>,
@@ -58,8 +58,8 @@ fn place_of(happening: Happening) -> usize {
 impl Dependencies {
     /// Of so many acts none waits.
     pub fn new(alloc: Heap, acts: usize) -> Result<Dependencies, AllocError> {
-        let point = Point {
-            stage: Stage::Open,
+        let point = HappeningState {
+            stage: OrderStage::Open,
             wait: None,
         };
         let points = vec![in alloc; point; acts.saturating_mul(2)]?;
@@ -86,7 +86,7 @@ impl Dependencies {
         };
         let next = point.wait;
         point.wait = Some(wait);
-        if let Err(_) = self.waits.push(Wait { before, next }) {
+        if let Err(_) = self.waits.push(Dependency { before, next }) {
             self.fail(PlayFault::Memory);
         }
     }
@@ -128,10 +128,10 @@ impl Dependencies {
             return;
         };
         match point.stage {
-            Stage::Placed => {}
-            Stage::Begun => self.fail(PlayFault::NoOrder),
-            Stage::Open => {
-                point.stage = Stage::Begun;
+            OrderStage::Placed => {}
+            OrderStage::Begun => self.fail(PlayFault::NoOrder),
+            OrderStage::Open => {
+                point.stage = OrderStage::Begun;
                 if let Err(_) = self.begun.push(wanted) {
                     self.fail(PlayFault::Memory);
                 }
@@ -143,7 +143,7 @@ impl Dependencies {
     fn end(&mut self, last: Happening) {
         let _ = self.begun.pop();
         if let Some(point) = self.points.get_mut(place_of(last)) {
-            point.stage = Stage::Placed;
+            point.stage = OrderStage::Placed;
         }
         if let Err(_) = self.order.push(last) {
             self.fail(PlayFault::Memory);

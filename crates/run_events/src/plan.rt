@@ -14,11 +14,11 @@ use world_model::WorldEvent;
 ///
 /// A rank that computes for long makes many steps in a row, which take no memory here.
 #[derive(Drop)]
-pub struct Plan {
+pub struct PlannedEvents {
     parts: Vec<Times, Heap>,
 }
 
-impl Model for Plan {
+impl Model for PlannedEvents {
     ghost use Rattle.std.specs.Prelude.{List};
     ghost use Rattle.bare_world.specs.declared.event.WorldEvent.{WorldEvent};
     ghost use Rattle.run_events.specs.Planned.{events_in};
@@ -28,12 +28,12 @@ impl Model for Plan {
     ghost view = { λ p. events_in p.parts.items };
 }
 
-impl Plan {
+impl PlannedEvents {
     /// No event.
-    pub fn new(alloc: Heap) -> Plan
+    pub fn new(alloc: Heap) -> PlannedEvents
         ensures { result ≡ [] }
     {
-        Plan {
+        PlannedEvents {
             parts: Vec::new(alloc),
         }
     }

@@ -7,8 +7,8 @@ use crate::asked::{AskedAll, asked_of, is_over};
 use crate::before::waits_of;
 use crate::fault::PlayFault;
 use crate::order::Happening;
-use crate::plan::Plan;
-use crate::writing::Events;
+use crate::plan::PlannedEvents;
+use crate::writing::WrittenEvents;
 use crash_free::{Act, Passed, Sim};
 use limits::Heap;
 use rank_language::Program;
@@ -18,14 +18,19 @@ use rank_language::Program;
 /// that says so.
 ///
 /// Nothing is promised of them here: whoever asks for them plays them first.
-pub fn plan_of(alloc: Heap, program: &Program, ranks: u8, run: &Sim<'_>) -> Result<Plan, PlayFault>
+pub fn plan_of(
+    alloc: Heap,
+    program: &Program,
+    ranks: u8,
+    run: &Sim<'_>,
+) -> Result<PlannedEvents, PlayFault>
     requires some { 1 ≤ ranks }
     requires few { ranks ≤ most_ranks }
 {
     let acts = run.acts();
     let asked = asked_of(alloc, program, ranks, run)?;
     let order = waits_of(alloc, ranks, acts, asked.acts.as_slice())?.ordered()?;
-    let mut events = Events::new(alloc);
+    let mut events = WrittenEvents::new(alloc);
     for happening in &order {
         if let Some(passed) = acts.get(happening.act) {
             write(&mut events, passed, &asked, *happening);
@@ -35,7 +40,7 @@ pub fn plan_of(alloc: Heap, program: &Program, ranks: u8, run: &Sim<'_>) -> Resu
     events.into_plan()
 }
 
-fn write(events: &mut Events, passed: &Passed, asked: &AskedAll, happening: Happening) {
+fn write(events: &mut WrittenEvents, passed: &Passed, asked: &AskedAll, happening: Happening) {
     if happening.arrives {
         return write_arrival(events, passed);
     }
@@ -47,7 +52,7 @@ fn write(events: &mut Events, passed: &Passed, asked: &AskedAll, happening: Happ
 }
 
 // The act, behind so many steps of its rank's own.
-fn write_act(events: &mut Events, passed: &Passed, steps: u32) {
+fn write_act(events: &mut WrittenEvents, passed: &Passed, steps: u32) {
     let rank = passed.rank;
     let steps = steps.saturating_add(1);
     match &passed.act {
@@ -67,7 +72,7 @@ fn write_act(events: &mut Events, passed: &Passed, steps: u32) {
     }
 }
 
-fn write_arrival(events: &mut Events, passed: &Passed) {
+fn write_arrival(events: &mut WrittenEvents, passed: &Passed) {
     match &passed.act {
         Act::Sends { dest, .. } => events.arrive(passed.rank, *dest),
         Act::Takes { .. } | Act::Hits { .. } | Act::Misses | Act::Prints(_) => {}
@@ -75,7 +80,7 @@ fn write_arrival(events: &mut Events, passed: &Passed) {
 }
 
 // What each rank does behind its last act, and one step more where it has ended or waits.
-fn write_ends(events: &mut Events, run: &Sim<'_>, asked: &AskedAll) {
+fn write_ends(events: &mut WrittenEvents, run: &Sim<'_>, asked: &AskedAll) {
     for rank in 0..run.ranks() {
         events.store_misses(rank);
         let steps = asked.rests.get(usize::from(rank)).copied().unwrap_or(0);

@@ -1,13 +1,13 @@
 //! The events of what happens.
 
 use crate::fault::PlayFault;
-use crate::plan::Plan;
+use crate::plan::PlannedEvents;
 use limits::{Heap, MOST_EVENTS, MOST_RANKS};
 use world_model::WorldEvent;
 
 // What is known of one rank while events are written.
 #[derive(Clone, Copy)]
-struct Writer {
+struct EventWriter {
     /// Whether its last act is a miss that isn't stored.
     missed: bool,
     /// How many events it has at the logger.
@@ -22,23 +22,23 @@ struct Writer {
 /// before its next other act: so no send and no line waits, and misses in a row
 /// are one event.
 #[derive(Drop)]
-pub struct Events {
-    plan: Plan,
-    writers: [Writer; MOST_RANKS],
+pub struct WrittenEvents {
+    plan: PlannedEvents,
+    writers: [EventWriter; MOST_RANKS],
     /// Why there are no events, the first that was found.
     room: Result<(), PlayFault>,
 }
 
-impl Events {
+impl WrittenEvents {
     /// No event.
-    pub fn new(alloc: Heap) -> Events {
-        let writer = Writer {
+    pub fn new(alloc: Heap) -> WrittenEvents {
+        let writer = EventWriter {
             missed: false,
             stored: 0,
             put: [0; MOST_RANKS],
         };
-        Events {
-            plan: Plan::new(alloc),
+        WrittenEvents {
+            plan: PlannedEvents::new(alloc),
             writers: [writer; MOST_RANKS],
             room: Ok(()),
         }
@@ -51,8 +51,8 @@ impl Events {
     }
 
     /// The plan.
-    pub fn into_plan(self) -> Result<Plan, PlayFault> {
-        let Events { plan, room, .. } = self;
+    pub fn into_plan(self) -> Result<PlannedEvents, PlayFault> {
+        let WrittenEvents { plan, room, .. } = self;
         match room {
             Ok(()) => Ok(plan),
             Err(fault) => Err(fault),

@@ -4,6 +4,6 @@ mod lines;
 mod list;
 mod object;
 
-pub use lines::Lines;
+pub use lines::JsonLines;
 pub use list::List;
 pub use object::Object;

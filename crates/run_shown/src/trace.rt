@@ -26,4 +26,4 @@ pub use message::kind_name;
 pub use place::Place;
 pub use places::places_of;
 pub use trace::{trace_json, trace_text};
-pub use why::Why;
+pub use why::WhyUnfinished;

@@ -12,4 +12,4 @@ mod ranks;
 mod standing;
 mod wants;
 
-pub use playing::{Texts, world_json};
+pub use playing::{WorldTexts, world_json};

@@ -9,8 +9,8 @@ use Rattle.audit.specs.declared.outcome.End.{End}
 use Rattle.audit.specs.declared.outcome.End.TheVariants as end
 use Rattle.crash_free.specs.declared.choice.Choice.{Choice}
 use Rattle.crash_free.specs.declared.choice.Choice.TheVariants as choice
-use Rattle.crash_free.specs.declared.leftover.Mark.{Mark}
-use Rattle.crash_free.specs.declared.leftover.Mark.TheVariants as known
+use Rattle.crash_free.specs.declared.leftover.MessageMark.{MessageMark}
+use Rattle.crash_free.specs.declared.leftover.MessageMark.TheVariants as known
 use Rattle.explore.specs.declared.moves.Noted.{Noted}
 use Rattle.explore.specs.Explored.{ExploredValue}
 use Rattle.audit.specs.FinalRuns.Maximal.{RankOutcome}
@@ -26,7 +26,7 @@ use Rattle.runner.specs.SearchObject.{safety_members, says_none, search_object, 
 use Rattle.runner.specs.declared.explored.lined.LinedLeftover.{LinedLeftover}
 use Rattle.runner.specs.declared.explored.safety.Safety.{Safety}
 use Rattle.runner.specs.declared.explored.safety.Safety.TheVariants as safety
-use Rattle.runner.specs.declared.explored.safety.Wait.{Wait}
+use Rattle.runner.specs.declared.explored.safety.WaitingRank.{WaitingRank}
 
 -- of three lists of members without a float the order picks one
 no_float-put_at : (o : Ordering) (a b c : Members) → members_have_float a ≡ false → members_have_float b ≡ false → members_have_float c ≡ false
@@ -126,7 +126,7 @@ no_float-mark (Some mark) = refl
 no_float-mark None = refl
 
 -- by what a message is known
-no_float-known : (x : Mark) → HaveNoFloat (known_members x)
+no_float-known : (x : MessageMark) → HaveNoFloat (known_members x)
 no_float-known (known.Tag tag) = (refl, tt)
 no_float-known (known.Call kind (Some ordinal)) = (refl, (no_float-value ordinal, tt))
 no_float-known (known.Call kind None) = (refl, tt)
@@ -191,7 +191,7 @@ no_float-found found left marks lines races clean =
     (no_float-outcomes lines left marks 0 found.outcomes found.choices, (clean, (refl, (refl, (refl, (refl, (refl, no_float-closed found.closed))))))) refl
 
 -- ranks that wait, and their lines
-no_float-wait_objects : (waits : List Wait) → items_have_float (items_of (map wait_object waits)) ≡ false
+no_float-wait_objects : (waits : List WaitingRank) → items_have_float (items_of (map wait_object waits)) ≡ false
 no_float-wait_objects [] = refl
 no_float-wait_objects (wait ∷ waits) =
     or_from (has_float (wait_object wait)) (items_have_float (items_of (map wait_object waits)))

@@ -2,7 +2,7 @@
 use Rattle.std.proofs.Common.{◌≡◌, ℕ, ◌+◌, Bool, true, List, [], ◌++◌, Option, Some, codes, length, slice_get, slice_index_or, refl, ap, subst, sym, ◌∙◌}
 use Rattle.std.proofs.lemmas.List.{append-nil, length-map}
 use Rattle.explore.specs.declared.moves.Noted.{Noted}
-use Rattle.explore.specs.Explored.{ExploredValue, OutcomeValue, rank_outcomes}
+use Rattle.explore.specs.Explored.{ExploredValue, FoundOutcomeValue, rank_outcomes}
 use Rattle.explore.specs.Shown.{AreMarked}
 use Rattle.explore.proofs.SeenOf.{seen_at}
 use Rattle.audit.specs.FinalRuns.Maximal.{RankOutcome}
@@ -114,10 +114,10 @@ is_marked_summary synchronous lines program ranks found told left marks cycle ru
 }
 
 -- as many outcomes as are seen were found
-pub as_many : (xs : List OutcomeValue) → length (rank_outcomes xs) ≡ length xs
-as_many xs = length-map xs (λ (x : OutcomeValue). x.ranks)
+pub as_many : (xs : List FoundOutcomeValue) → length (rank_outcomes xs) ≡ length xs
+as_many xs = length-map xs (λ (x : FoundOutcomeValue). x.ranks)
 
 -- the outcome of this number is seen at the index before it
-pub numbered : (xs : List OutcomeValue) (number index : ℕ) (x : OutcomeValue) → number ≡ index + 1 → slice_get xs index ≡ Some x
+pub numbered : (xs : List FoundOutcomeValue) (number index : ℕ) (x : FoundOutcomeValue) → number ≡ index + 1 → slice_get xs index ≡ Some x
     → (i : ℕ) × (number ≡ i + 1) × (slice_get (rank_outcomes xs) i ≡ Some x.ranks)
 numbered xs number index x same there = (index, same, seen_at xs index x there)

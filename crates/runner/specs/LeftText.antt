@@ -4,18 +4,18 @@ use Rattle.std.specs.Prelude.{◌==◌, ◌&&◌, ℕ, ◌+◌, Bool, true, fals
 use Rattle.std.specs.Fmt.{decimal}
 use Rattle.std.specs.Option.{option_eq}
 use Rattle.std.specs.Ordering.{int_eq}
-use Rattle.crash_free.specs.declared.leftover.Mark.{Mark}
-use Rattle.crash_free.specs.declared.leftover.Mark.TheVariants as mark
+use Rattle.crash_free.specs.declared.leftover.MessageMark.{MessageMark}
+use Rattle.crash_free.specs.declared.leftover.MessageMark.TheVariants as mark
 use Rattle.run_shown.specs.Trace.Words.{name_text, ordinal_text}
 use Rattle.runner.specs.declared.explored.lined.LinedLeftover.{LinedLeftover}
 
 -- by what to know a message: its tag, or the collective that it is of
-abbrev pub mark_words : Mark → List ℕ
+abbrev pub mark_words : MessageMark → List ℕ
 mark_words (mark.Tag tag) = codes ", tag " ++ decimal tag
 mark_words (mark.Call kind number) = codes ", " ++ name_text kind ++ ordinal_text number
 
 -- both have one tag, or are of one collective
-abbrev pub same_mark : Mark → Mark → Bool
+abbrev pub same_mark : MessageMark → MessageMark → Bool
 same_mark (mark.Tag tag) (mark.Tag other) = tag == other
 same_mark (mark.Call kind number) (mark.Call kind' number') = option_eq int_eq kind kind' && option_eq int_eq number number'
 same_mark (mark.Tag tag) (mark.Call kind number) = false

@@ -6,11 +6,11 @@ use Rattle.audit.specs.declared.outcome.End.{End}
 use Rattle.audit.specs.declared.outcome.End.TheVariants as end
 use Rattle.explore.specs.Explored.{ExploredValue}
 use Rattle.audit.specs.FinalRuns.Maximal.{RankOutcome}
-use Rattle.runner.specs.declared.explored.meaning.Ending.{Ending}
-use Rattle.runner.specs.declared.explored.meaning.Ending.TheVariants as ending
+use Rattle.runner.specs.declared.explored.meaning.NoHalt.{NoHalt}
+use Rattle.runner.specs.declared.explored.meaning.NoHalt.TheVariants as ending
 
 -- the rank ended so
-abbrev pub is_of : Ending → End → Bool
+abbrev pub is_of : NoHalt → End → Bool
 is_of ending.Stalls end.Stalled = true
 is_of ending.Stalls (end.Faulted fault) = false
 is_of ending.Stalls end.Halted = false
@@ -21,7 +21,7 @@ is_of ending.Faults end.Halted = false
 is_of ending.Faults end.Unfinished = false
 
 -- the numbers of the ranks that ended so, from this rank on
-abbrev pub ranks_of : Ending → ℕ → List RankOutcome → List ℕ
+abbrev pub ranks_of : NoHalt → ℕ → List RankOutcome → List ℕ
 ranks_of ending rank [] = []
 ranks_of ending rank (seen ∷ others) =
     if is_of ending seen.end then rank ∷ ranks_of ending (rank + 1) others else ranks_of ending (rank + 1) others

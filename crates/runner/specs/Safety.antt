@@ -17,7 +17,7 @@ use Rattle.runner.specs.declared.explored.safety.Safety.{Safety}
 use Rattle.runner.specs.declared.explored.safety.Safety.TheVariants as safety
 use Rattle.runner.specs.declared.explored.safety.Unknown.{Unknown}
 use Rattle.runner.specs.declared.explored.safety.Unknown.TheVariants as unknown
-use Rattle.runner.specs.declared.explored.safety.Wait.{Wait}
+use Rattle.runner.specs.declared.explored.safety.WaitingRank.{WaitingRank}
 use Rattle.runner.specs.declared.explored.safety.WaitingRanks.{WaitingRanks}
 
 -- the search is complete, and each rank halts in each outcome
@@ -93,12 +93,12 @@ wait_words waits = if waits.each_other then codes " wait for each other, at " el
     (if length waits.ranks.items == 1 then codes " waits in its send, at " else codes " wait in their sends, at ")
 
 -- the numbers of the ranks that wait
-abbrev pub waiting_ranks : List Wait → List ℕ
-waiting_ranks waits = map (λ (w : Wait). w.rank) waits
+abbrev pub waiting_ranks : List WaitingRank → List ℕ
+waiting_ranks waits = map (λ (w : WaitingRank). w.rank) waits
 
 -- the lines at which they do, as far as they are known
-abbrev pub waiting_lines : List Wait → List ℕ
-waiting_lines waits = filter_map (λ (w : Wait). w.line) waits
+abbrev pub waiting_lines : List WaitingRank → List ℕ
+waiting_lines waits = filter_map (λ (w : WaitingRank). w.line) waits
 
 -- the line on these
 abbrev pub waits_line : WaitingRanks → List ℕ

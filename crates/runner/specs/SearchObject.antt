@@ -6,8 +6,8 @@ use Rattle.audit.specs.declared.outcome.End.{End}
 use Rattle.audit.specs.declared.outcome.End.TheVariants as end
 use Rattle.crash_free.specs.declared.choice.Choice.{Choice}
 use Rattle.crash_free.specs.declared.choice.Choice.TheVariants as choice
-use Rattle.crash_free.specs.declared.leftover.Mark.{Mark}
-use Rattle.crash_free.specs.declared.leftover.Mark.TheVariants as known
+use Rattle.crash_free.specs.declared.leftover.MessageMark.{MessageMark}
+use Rattle.crash_free.specs.declared.leftover.MessageMark.TheVariants as known
 use Rattle.explore.specs.declared.moves.Noted.{Noted}
 use Rattle.explore.specs.Explored.{ExploredValue}
 use Rattle.audit.specs.FinalRuns.Maximal.{RankOutcome}
@@ -16,7 +16,7 @@ use Rattle.run_shown.specs.Trace.Words.{name_text}
 use Rattle.runner.specs.declared.explored.lined.LinedLeftover.{LinedLeftover}
 use Rattle.runner.specs.declared.explored.safety.Safety.{Safety}
 use Rattle.runner.specs.declared.explored.safety.Safety.TheVariants as safety
-use Rattle.runner.specs.declared.explored.safety.Wait.{Wait}
+use Rattle.runner.specs.declared.explored.safety.WaitingRank.{WaitingRank}
 use Rattle.serde_json.specs.Data.{Data, Items, Members, put}
 use Rattle.serde_json.specs.Data as json
 use Rattle.serde_json.specs.Find.{of_integer}
@@ -91,7 +91,7 @@ ordinal_members (Some ordinal) = (codes "number", value ordinal) ∷ []
 ordinal_members None = []
 
 -- by what to know a message: its tag, or the collective that it is of
-abbrev pub known_members : Mark → List (List ℕ × Data)
+abbrev pub known_members : MessageMark → List (List ℕ × Data)
 known_members (known.Tag tag) = (codes "tag", count tag) ∷ []
 known_members (known.Call kind ordinal) = (codes "collective", json.string (name_text kind)) ∷ ordinal_members ordinal
 
@@ -168,7 +168,7 @@ is_safe_if_known (safety.NotSafe waits) = Some false
 is_safe_if_known (safety.Unknown why) = None
 
 -- a rank that waits, and the line at which it does
-abbrev pub wait_object : Wait → Data
+abbrev pub wait_object : WaitingRank → Data
 wait_object wait = object_of (place_members wait.rank wait.line)
 
 -- those that wait, if it isn't safe

@@ -6,18 +6,18 @@ use Rattle.audit.specs.FinalRuns.Maximal.{IsOutcomeOf, RankOutcome}
 use Rattle.crash_free.specs.Leftovers.{join_below, left_in}
 use Rattle.crash_free.specs.Sim.{SimValue, start_of}
 use Rattle.crash_free.specs.declared.leftover.Leftover.{Leftover}
-use Rattle.crash_free.specs.declared.leftover.Mark.{Mark}
-use Rattle.crash_free.specs.declared.leftover.Mark.TheVariants as mark
+use Rattle.crash_free.specs.declared.leftover.MessageMark.{MessageMark}
+use Rattle.crash_free.specs.declared.leftover.MessageMark.TheVariants as mark
 use Rattle.explore.specs.Explored.{ExploredValue}
 use Rattle.explore.specs.Outcomes.{IsAmong}
 use Rattle.explore.specs.Searching.{IsSimOf}
 use Rattle.rank_language.specs.Program.{ProgramValue}
 use Rattle.rank_machine.specs.Machine.{MachineValue}
-use Rattle.runner.specs.declared.explored.safety.Wait.{Wait}
+use Rattle.runner.specs.declared.explored.safety.WaitingRank.{WaitingRank}
 use Rattle.runner.specs.declared.explored.safety.WaitingRanks.{WaitingRanks}
 
 -- the message is of a send, not of a collective
-abbrev pub is_tag : Mark → Bool
+abbrev pub is_tag : MessageMark → Bool
 is_tag (mark.Tag tag) = true
 is_tag (mark.Call kind number) = false
 
@@ -43,7 +43,7 @@ line_of_machine lines None = None
 line_of_machine lines (Some machine) = slice_get lines machine.position
 
 -- the rank, if it waits in its send, with the line at which it does
-abbrev pub if_waits : List ℕ → List MachineValue → List Leftover → ℕ → List Wait
+abbrev pub if_waits : List ℕ → List MachineValue → List Leftover → ℕ → List WaitingRank
 if_waits lines machines left rank =
     if waits_in_send left rank then record { rank = rank; line = line_of_machine lines (slice_get machines rank) } ∷ [] else []
 

@@ -22,7 +22,7 @@ pub use crate::explored::lined::{LinedLeftover, LinedLeftovers, LinedOutcome};
 use crate::explored::meaning::print_meaning;
 use crate::explored::parting::{Parted, part, print_choices};
 pub use crate::explored::racing::print_summary;
-pub use crate::explored::safety::{Safety, Unknown, Wait, WaitingRanks, print_safety};
+pub use crate::explored::safety::{Safety, Unknown, WaitingRank, WaitingRanks, print_safety};
 use crate::output::{print_end, print_line};
 use audit::End;
 use explore::{Explored, FoundOutcome, Limits, RankEnd};

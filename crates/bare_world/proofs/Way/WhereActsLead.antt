@@ -12,7 +12,7 @@ use Rattle.rank_machine.specs.declared.fault.MachineFault.TheVariants.{TooLong}
 use Rattle.rank_machine.specs.declared.want.Want.{Want}
 use Rattle.rank_machine.specs.declared.want.Want.TheVariants as want
 use Rattle.rank_machine.specs.Values.{Store, Valued, ◌>>=◌}
-use Rattle.rank_machine.specs.Collectives.{Call, called, part_of, is_last, counted, part_done, rest_after, unfaulted}
+use Rattle.rank_machine.specs.Collectives.{CollectiveCall, called, part_of, is_last, counted, part_done, rest_after, unfaulted}
 use Rattle.rank_machine.specs.States.{State, item_value}
 use Rattle.rank_machine.specs.Wants.{part_want, or_fault, want_of, simple_want, payload}
 use Rattle.rank_machine.specs.Acts.{Act, Message, sends, takes, hits, misses, prints, Fits, written, with_status, kept, goes_on, items_taken}
@@ -58,7 +58,7 @@ kept_rank (broadcast e b) items s = written_rank b items s
 kept_rank (reduce f e v p) items s = (refl, refl)
 
 -- and a part
-done_rank : (s : Store) (call : Call) → ((part_done s call).rank ≡ s.rank) × ((part_done s call).size ≡ s.size)
+done_rank : (s : Store) (call : CollectiveCall) → ((part_done s call).rank ≡ s.rank) × ((part_done s call).size ≡ s.size)
 done_rank s call = go (is_last s call)
   where
     go : (b : Bool) → (let z : Store = if b then counted s else record s { done = s.done + 1 } in (z.rank ≡ s.rank) × (z.size ≡ s.size))
@@ -81,13 +81,13 @@ part_rest at p true = refl
 part_rest at p false = refl
 
 -- the part of a call that stands
-called_rest : (at : ℕ → Block) (p : ℕ) (s : Store) (c : Collective) (call : Call) → called s c ≡ Ok call
+called_rest : (at : ℕ → Block) (p : ℕ) (s : Store) (c : Collective) (call : CollectiveCall) → called s c ≡ Ok call
     → rest_after s call (at p) (at (p + 1)) ≡ at (position_after s (Some (simple_line (collect c))) p)
 called_rest at p s c call e =
     part_rest at p (is_last s call) ∙ ap (λ v. at (if stays s (unfaulted v) then p else p + 1)) (sym e)
 
 -- a send of a collective
-sent_lands : (at : ℕ → Block) (p : ℕ) (s : Store) (c : Collective) (v : Valued Call) (items : List ℤ) (d : ℕ) (x : Context) (t : ℕ) (xs : List ℤ)
+sent_lands : (at : ℕ → Block) (p : ℕ) (s : Store) (c : Collective) (v : Valued CollectiveCall) (items : List ℤ) (d : ℕ) (x : Context) (t : ℕ) (xs : List ℤ)
     (m : Option Message) → called s c ≡ v → Fits (or_fault (v >>= (λ call. part_want s c call (part_of s call)))) items (sends d x t xs) m
     → Lands at p (position_after s (Some (simple_line (collect c))) p) s (sends d x t xs) (part_sent (stood s (at p) None) (at (p + 1)) v)
 sent_lands at p s c (Err k) items d x t xs m e f = absurd f
@@ -96,7 +96,7 @@ sent_lands at p s c (Ok call) items d x t xs m e f =
     record { rest = called_rest at p s c call e; rank = k.0; size = k.1; calm = λ z. refl }
 
 -- what a packet of a collective gives
-items_land : (at : ℕ → Block) (p q j : ℕ) (s : Store) (c : Collective) (call : Call) (v : Valued (List ℤ)) → called s c ≡ Ok call
+items_land : (at : ℕ → Block) (p q j : ℕ) (s : Store) (c : Collective) (call : CollectiveCall) (v : Valued (List ℤ)) → called s c ≡ Ok call
     → Lands at p (position_after s (Some (simple_line (collect c))) p) s (takes q j) (part_taken (stood s (at p) None) c (at (p + 1)) call v)
 items_land at p q j s c call (Err k) e = record { rest = refl; rank = refl; size = refl; calm = λ z. absurd z }
 items_land at p q j s c call (Ok items) e =
@@ -105,7 +105,7 @@ items_land at p q j s c call (Ok items) e =
     record { rest = called_rest at p s c call e; rank = d.0 ∙ k.0; size = d.1 ∙ k.1; calm = λ z. absurd z }
 
 -- a packet that a collective takes
-taken_lands : (at : ℕ → Block) (p q j : ℕ) (s : Store) (c : Collective) (v : Valued Call) (items : List ℤ) (x : Message) → called s c ≡ v
+taken_lands : (at : ℕ → Block) (p q j : ℕ) (s : Store) (c : Collective) (v : Valued CollectiveCall) (items : List ℤ) (x : Message) → called s c ≡ v
     → Fits (or_fault (v >>= (λ call. part_want s c call (part_of s call)))) items (takes q j) (Some x)
     → Lands at p (position_after s (Some (simple_line (collect c))) p) s (takes q j) (collected (stood s (at p) None) c (at (p + 1)) x v)
 taken_lands at p q j s c (Err k) items x e f = absurd f

@@ -9,13 +9,13 @@ use Rattle.rank_language.specs.Block.{Block, done, plain, if_only, if_else, loop
 use Rattle.rank_machine.specs.declared.fault.MachineFault.{MachineFault}
 use Rattle.rank_machine.specs.declared.fault.MachineFault.TheVariants.{TooLong}
 use Rattle.rank_machine.specs.Values.{Store, Valued, ◌>>=◌}
-use Rattle.rank_machine.specs.Collectives.{Call, called, given_by, is_last, counted, part_done}
+use Rattle.rank_machine.specs.Collectives.{CollectiveCall, called, given_by, is_last, counted, part_done}
 use Rattle.rank_machine.specs.States.{State}
 use Rattle.rank_machine.specs.Wants.{wants, payload}
 use Rattle.rank_machine.specs.Acts.{Message, Act, sends, takes, hits, misses, prints, Fits, Makes, room, written, with_status, with_variable}
 use Rattle.rank_machine.specs.Acts.{goes_on, received, with_gathered, kept, fitting}
 use Rattle.rank_machine.specs.Acts.{part_made, part_sent, part_taken, items_taken, collected, after_first, unless_faulted, next}
-use Rattle.crash_free.specs.LiveVariables.Names.{Name, place, status, is_place, is_status, is_buffer, writes}
+use Rattle.crash_free.specs.LiveVariables.Names.{StoredName, place, status, is_place, is_status, is_buffer, writes}
 use Rattle.crash_free.specs.LiveVariables.Unread.{reads_first}
 use Rattle.crash_free.specs.LiveVariables.Agrees.{Same, SameWhere, Agrees}
 use Rattle.crash_free.specs.LiveVariables.Given.{HasItem}
@@ -58,17 +58,17 @@ goes : (r : Block) (s s' : Store) → SameWhere (λ n. reads_first n r) s s' →
 goes r s s' h = record { rest = refl; fault = refl; stored = h }
 
 -- where nothing is written
-goes_unwritten : (x : Simple) (r : Block) (s s' : Store) → ((n : Name) → writes n x ≡ false) → SameWhere (λ n. reads_first n (plain x r)) s s'
+goes_unwritten : (x : Simple) (r : Block) (s s' : Store) → ((n : StoredName) → writes n x ≡ false) → SameWhere (λ n. reads_first n (plain x r)) s s'
     → Agrees (goes_on s r) (goes_on s' r)
 goes_unwritten x r s s' none h = goes r s s' (unwritten x r r s s' s s' none refl h)
 
 -- a buffer has as much room
-room_same : (b : Buffer) (among : Name → Bool) (s s' : Store) → SameWhere among s s' → room s b ≡ room s' b
+room_same : (b : Buffer) (among : StoredName → Bool) (s s' : Store) → SameWhere among s s' → room s b ≡ room s' b
 room_same (into_variable p) among s s' h = refl
 room_same (into_array p) among s s' h = rw h.arrays refl
 
 -- items that go to an array do so in both
-array_same : (p : ℕ) (items : List ℤ) (among : Name → Bool) (s s' : Store) → SameWhere among s s'
+array_same : (p : ℕ) (items : List ℤ) (among : StoredName → Bool) (s s' : Store) → SameWhere among s s'
     → SameWhere among (written (into_array p) items s) (written (into_array p) items s')
 array_same p items among s s' h =
     record {
@@ -82,19 +82,19 @@ array_same p items among s s' h =
       same = λ n e. as_was n (h.same n e);
     }
   where
-    as_was : (n : Name) → Same n s s' → Same n (written (into_array p) items s) (written (into_array p) items s')
+    as_was : (n : StoredName) → Same n s s' → Same n (written (into_array p) items s) (written (into_array p) items s')
     as_was (place q) k = k
     as_was status k = k
 
 -- some items write a buffer in both
-buffer_same : (b : Buffer) (items : List ℤ) (among : Name → Bool) (s s' : Store) → items ≢ [] → SameWhere among s s'
+buffer_same : (b : Buffer) (items : List ℤ) (among : StoredName → Bool) (s s' : Store) → items ≢ [] → SameWhere among s s'
     → SameWhere (λ n. among n || is_buffer n b) (written b items s) (written b items s')
 buffer_same (into_variable p) [] among s s' some h = absurd (some refl)
 buffer_same (into_variable p) (z ∷ zs) among s s' some h = variable_same among p z s s' h
 buffer_same (into_array p) items among s s' some h = nothing_more among (written (into_array p) items s) (written (into_array p) items s') (array_same p items among s s' h)
 
 -- and any items keep them the same
-buffer_kept : (b : Buffer) (items : List ℤ) (among : Name → Bool) (s s' : Store) → SameWhere among s s'
+buffer_kept : (b : Buffer) (items : List ℤ) (among : StoredName → Bool) (s s' : Store) → SameWhere among s s'
     → SameWhere among (written b items s) (written b items s')
 buffer_kept (into_variable p) [] among s s' h = h
 buffer_kept (into_variable p) (z ∷ zs) among s s' h =
@@ -139,7 +139,7 @@ tried_same : (c t : Pattern) (flag : ℕ) (r : Block) (s s' : Store) (source : �
 tried_same c t flag r s s' source m h =
     let u = with_variable flag (pos 1) s in
     let u' = with_variable flag (pos 1) s' in
-    let among : Name → Bool = λ n. reads_first n (plain (try_probe c t flag) r) || is_place flag n in
+    let among : StoredName → Bool = λ n. reads_first n (plain (try_probe c t flag) r) || is_place flag n in
     goes r (with_status source m u) (with_status source m u')
     (behind (try_probe c t flag) r (with_status source m u) (with_status source m u')
     (left_of among is_status (with_status source m u) (with_status source m u')
@@ -154,16 +154,16 @@ missed_same c t flag r s s' h =
     (variable_same (λ n. reads_first n (plain (try_probe c t flag) r)) flag (pos 0) s s' h))
 
 -- the same part is the last
-last_same : (call : Call) (among : Name → Bool) (s s' : Store) → SameWhere among s s' → is_last s call ≡ is_last s' call
+last_same : (call : CollectiveCall) (among : StoredName → Bool) (s s' : Store) → SameWhere among s s' → is_last s call ≡ is_last s' call
 last_same call among s s' h = rw (h.rank, h.size, h.parts) refl
 
 -- a part is counted in both
-part_done_same : (call : Call) (among : Name → Bool) (s s' : Store) → SameWhere among s s' → SameWhere among (part_done s call) (part_done s' call)
+part_done_same : (call : CollectiveCall) (among : StoredName → Bool) (s s' : Store) → SameWhere among s s' → SameWhere among (part_done s call) (part_done s' call)
 part_done_same call among s s' h =
     subst (λ b. SameWhere among (part_done s call) (if b then counted s' else record s' { done = s'.done + 1 })) (last_same call among s s' h)
     (by_test (is_last s call))
   where
-    as_was : (n : Name) → Same n s s' → Same n (record s { done = s.done + 1 }) (record s' { done = s'.done + 1 })
+    as_was : (n : StoredName) → Same n s s' → Same n (record s { done = s.done + 1 }) (record s' { done = s'.done + 1 })
     as_was (place q) k = k
     as_was status k = k
 
@@ -182,7 +182,7 @@ part_done_same call among s s' h =
         }
 
 -- after a part of a collective both are at the next part, or behind
-part_made_same : (c : Collective) (r : Block) (call : Call) (a a' : State) (s s' : Store) → Agrees a a' → a.rest ≡ plain (collect c) r
+part_made_same : (c : Collective) (r : Block) (call : CollectiveCall) (a a' : State) (s s' : Store) → Agrees a a' → a.rest ≡ plain (collect c) r
     → SameWhere (λ n. reads_first n (plain (collect c) r)) s s' → Agrees (part_made a s r call) (part_made a' s' r call)
 part_made_same c r call a a' s s' h is k =
     record {
@@ -199,7 +199,7 @@ part_made_same c r call a a' s s' h is k =
     by_test false = subst (λ z. SameWhere (λ n. reads_first n z) (part_done s call) (part_done s' call)) (sym is) whole
 
 -- what a packet gives is kept in both
-kept_same : (c : Collective) (items : List ℤ) (among : Name → Bool) (s s' : Store) → SameWhere among s s' → SameWhere among (kept c items s) (kept c items s')
+kept_same : (c : Collective) (items : List ℤ) (among : StoredName → Bool) (s s' : Store) → SameWhere among s s' → SameWhere among (kept c items s) (kept c items s')
 kept_same barrier items among s s' h = h
 kept_same (broadcast root b) items among s s' h = buffer_kept b items among s s' h
 kept_same (reduce f root e p) items among s s' h =
@@ -214,18 +214,18 @@ kept_same (reduce f root e p) items among s s' h =
       same = λ n e. as_was n (h.same n e);
     }
   where
-    as_was : (n : Name) → Same n s s' → Same n (with_gathered items s) (with_gathered items s')
+    as_was : (n : StoredName) → Same n s s' → Same n (with_gathered items s) (with_gathered items s')
     as_was (place q) k = k
     as_was status k = k
 
 -- what fits in the one fits in the other
-fitting_same : (c : Collective) (items : List ℤ) (among : Name → Bool) (s s' : Store) → SameWhere among s s' → fitting s c items ≡ fitting s' c items
+fitting_same : (c : Collective) (items : List ℤ) (among : StoredName → Bool) (s s' : Store) → SameWhere among s s' → fitting s c items ≡ fitting s' c items
 fitting_same barrier items among s s' h = refl
 fitting_same (broadcast root b) items among s s' h = rw (room_same b among s s' h) refl
 fitting_same (reduce f root e p) items among s s' h = refl
 
 -- what a packet of a collective gives doesn't depend on the rest of the store
-items_taken_same : (c : Collective) (call : Call) (packet : List ℤ) (among : Name → Bool) (s s' : Store) → SameWhere among s s'
+items_taken_same : (c : Collective) (call : CollectiveCall) (packet : List ℤ) (among : StoredName → Bool) (s s' : Store) → SameWhere among s s'
     → items_taken s c call packet ≡ items_taken s' c call packet
 items_taken_same c call packet among s s' h = by_given (given_by call packet)
   where
@@ -234,14 +234,14 @@ items_taken_same c call packet among s s' h = by_given (given_by call packet)
     by_given (Err k) = refl
 
 -- a packet of a collective
-part_taken_same : (c : Collective) (r : Block) (call : Call) (v : Valued (List ℤ)) (a a' : State) → Agrees a a' → a.rest ≡ plain (collect c) r
+part_taken_same : (c : Collective) (r : Block) (call : CollectiveCall) (v : Valued (List ℤ)) (a a' : State) → Agrees a a' → a.rest ≡ plain (collect c) r
     → SameWhere (λ n. reads_first n (plain (collect c) r)) a.store a'.store → Agrees (part_taken a c r call v) (part_taken a' c r call v)
 part_taken_same c r call (Ok items) a a' h is k =
     part_made_same c r call a a' (kept c items a.store) (kept c items a'.store) h is (kept_same c items (λ n. reads_first n (plain (collect c) r)) a.store a'.store k)
 part_taken_same c r call (Err f) a a' h is k = record { rest = h.rest; fault = refl; stored = h.stored }
 
 -- states that agree do so behind a packet of a collective
-collected_same : (c : Collective) (r : Block) (m : Message) (v : Valued Call) (a a' : State) → Agrees a a' → a.rest ≡ plain (collect c) r
+collected_same : (c : Collective) (r : Block) (m : Message) (v : Valued CollectiveCall) (a a' : State) → Agrees a a' → a.rest ≡ plain (collect c) r
     → SameWhere (λ n. reads_first n (plain (collect c) r)) a.store a'.store → Agrees (collected a c r m v) (collected a' c r m v)
 collected_same c r m (Ok call) a a' h is k =
     subst (λ v. Agrees (part_taken a c r call (items_taken a.store c call m.items)) (part_taken a' c r call v))
@@ -250,7 +250,7 @@ collected_same c r m (Ok call) a a' h is k =
 collected_same c r m (Err f) a a' h is k = h
 
 -- a send of a collective
-part_sent_same : (c : Collective) (r : Block) (v : Valued Call) (a a' : State) → Agrees a a' → a.rest ≡ plain (collect c) r
+part_sent_same : (c : Collective) (r : Block) (v : Valued CollectiveCall) (a a' : State) → Agrees a a' → a.rest ≡ plain (collect c) r
     → SameWhere (λ n. reads_first n (plain (collect c) r)) a.store a'.store → Agrees (part_sent a r v) (part_sent a' r v)
 part_sent_same c r (Ok call) a a' h is k = part_made_same c r call a a' a.store a'.store h is k
 part_sent_same c r (Err f) a a' h is k = h

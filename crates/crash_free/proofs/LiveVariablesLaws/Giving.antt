@@ -10,7 +10,7 @@ use Rattle.rank_language.specs.Placed.{print, Collective, Buffer, into_variable,
 use Rattle.rank_language.specs.Block.{Block, done, plain, if_only, if_else, loop, ◌then◌, taken}
 use Rattle.rank_machine.specs.declared.fault.MachineFault.{MachineFault}
 use Rattle.rank_machine.specs.Values.{Store, Valued, ◌>>=◌, value, is_zero}
-use Rattle.rank_machine.specs.Collectives.{Call, Part, gives, gets, ends, part_of, called, ended, counted, unfaulted, ended_at, ended_by, own_end, stored_or}
+use Rattle.rank_machine.specs.Collectives.{CollectiveCall, Part, gives, gets, ends, part_of, called, ended, counted, unfaulted, ended_at, ended_by, own_end, stored_or}
 use Rattle.rank_machine.specs.Collectives.{folded, with_at}
 use Rattle.rank_machine.specs.States.{State, Inners, here, on, item_value, assigned, item_assigned}
 use Rattle.rank_machine.specs.States.{after_test, after_value, inner_rest, inner_store, inner_of, inner}
@@ -189,7 +189,7 @@ written_keeps (into_array p) items s = set_keeps s.arrays p (overwritten items (
 end_keeps : (s : Store) (c : Collective) → Keeps s.arrays (stored_or s (own_end s c)).arrays
 end_keeps s c = by_call (called s c)
   where
-    by_end : (c : Collective) (call : Call) → Keeps s.arrays (stored_or s (unfaulted (ended s c call))).arrays
+    by_end : (c : Collective) (call : CollectiveCall) → Keeps s.arrays (stored_or s (unfaulted (ended s c call))).arrays
     by_end barrier call = λ q h. h
     by_end (broadcast root b) call = λ q h. h
     by_end (reduce f root e p) call = by_fold (folded f (with_at s.rank call.items s.gathered))
@@ -199,12 +199,12 @@ end_keeps s c = by_call (called s c)
         by_fold (Ok z) = λ q h. h
         by_fold (Err k) = λ q h. h
 
-    by_part : (call : Call) (p : Part) → Keeps s.arrays (stored_or s (ended_at s c call p)).arrays
+    by_part : (call : CollectiveCall) (p : Part) → Keeps s.arrays (stored_or s (ended_at s c call p)).arrays
     by_part call (gives d) = λ q h. h
     by_part call (gets d) = λ q h. h
     by_part call ends = by_end c call
 
-    by_call : (v : Valued Call) → Keeps s.arrays (stored_or s (ended_by s c v)).arrays
+    by_call : (v : Valued CollectiveCall) → Keeps s.arrays (stored_or s (ended_by s c v)).arrays
     by_call (Ok call) = by_part call (part_of s call)
     by_call (Err k) = λ q h. h
 

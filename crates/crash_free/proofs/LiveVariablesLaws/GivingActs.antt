@@ -13,7 +13,7 @@ use Rattle.rank_machine.specs.declared.fault.MachineFault.TheVariants.{TooLong}
 use Rattle.rank_machine.specs.declared.want.Want.{Want}
 use Rattle.rank_machine.specs.declared.want.Want.TheVariants as want
 use Rattle.rank_machine.specs.Values.{Store, Valued, ◌>>=◌, value, rank_in}
-use Rattle.rank_machine.specs.Collectives.{Call, called, part_of, counted, header, is_last, part_done}
+use Rattle.rank_machine.specs.Collectives.{CollectiveCall, called, part_of, counted, header, is_last, part_done}
 use Rattle.rank_machine.specs.States.{State, item_value}
 use Rattle.rank_machine.specs.Wants.{or_fault, want_of, wants, or_nothing, first_payload, payload, items_of, selector_of, tag_in, send_want, part_want, IsSend}
 use Rattle.rank_machine.specs.Acts.{Message, Act, sends, takes, hits, misses, prints, Fits, Makes, Does, room, written, with_status}
@@ -41,7 +41,7 @@ received_goes c t b r a source m is = by_test (nat_le (length m.items) (room a.s
     by_test false = (λ p h. subst (λ k. some_sends_all p k ≡ true) is h, λ p h. h)
 
 -- a part of a collective
-done_keeps : (s : Store) (call : Call) → Keeps s.arrays (part_done s call).arrays
+done_keeps : (s : Store) (call : CollectiveCall) → Keeps s.arrays (part_done s call).arrays
 done_keeps s call = by_test (is_last s call)
   where
     by_test : (b : Bool) → Keeps s.arrays (if b then counted s else record s { done = s.done + 1 }).arrays
@@ -49,7 +49,7 @@ done_keeps s call = by_test (is_last s call)
     by_test false = λ p h. h
 
 -- a call of a collective is one packet further, or made
-made_goes : (c : Collective) (r : Block) (call : Call) (a : State) (s : Store) → a.rest ≡ plain (collect c) r → Keeps a.store.arrays s.arrays
+made_goes : (c : Collective) (r : Block) (call : CollectiveCall) (a : State) (s : Store) → a.rest ≡ plain (collect c) r → Keeps a.store.arrays s.arrays
     → Goes (plain (collect c) r) a (part_made a s r call)
 made_goes c r call a s is keeps = (by_test (is_last a.store call), λ p h. done_keeps s call p (keeps p h))
   where
@@ -64,19 +64,19 @@ kept_keeps (broadcast root b) items s = written_keeps b items s
 kept_keeps (reduce f root e p) items s = λ q h. h
 
 -- so behind the items of a packet
-taken_goes : (c : Collective) (r : Block) (call : Call) (v : Valued (List ℤ)) (a : State) → a.rest ≡ plain (collect c) r
+taken_goes : (c : Collective) (r : Block) (call : CollectiveCall) (v : Valued (List ℤ)) (a : State) → a.rest ≡ plain (collect c) r
     → Goes (plain (collect c) r) a (part_taken a c r call v)
 taken_goes c r call (Ok items) a is = made_goes c r call a (kept c items a.store) is (kept_keeps c items a.store)
 taken_goes c r call (Err k) a is = (λ p h. subst (λ z. some_sends_all p z ≡ true) is h, λ p h. h)
 
 -- so behind a packet that it receives
-collected_goes : (c : Collective) (r : Block) (m : Message) (v : Valued Call) (a : State) → a.rest ≡ plain (collect c) r
+collected_goes : (c : Collective) (r : Block) (m : Message) (v : Valued CollectiveCall) (a : State) → a.rest ≡ plain (collect c) r
     → Goes (plain (collect c) r) a (collected a c r m v)
 collected_goes c r m (Ok call) a is = taken_goes c r call (items_taken a.store c call m.items) a is
 collected_goes c r m (Err k) a is = still (plain (collect c) r) a is
 
 -- and behind one that it sends
-sent_goes : (c : Collective) (r : Block) (v : Valued Call) (a : State) → a.rest ≡ plain (collect c) r → Goes (plain (collect c) r) a (part_sent a r v)
+sent_goes : (c : Collective) (r : Block) (v : Valued CollectiveCall) (a : State) → a.rest ≡ plain (collect c) r → Goes (plain (collect c) r) a (part_sent a r v)
 sent_goes c r (Ok call) a is = made_goes c r call a a.store is (λ p h. h)
 sent_goes c r (Err k) a is = still (plain (collect c) r) a is
 
@@ -160,7 +160,7 @@ items_some s d t (one e) r giving h = by (value s d) (value s t) (value s e) h
 items_some s d t (all_of p) r giving h = giving p (or_left (p == p) (some_sends_all p r) (eq-eqb p p refl))
 
 -- and those of a packet of a collective
-packet_some : (v : Valued Call) (f : Call → Valued Want) → IsSend (or_fault (v >>= f)) → or_nothing (v >>= (λ call. Ok (header call ++ call.items))) ≢ []
+packet_some : (v : Valued CollectiveCall) (f : CollectiveCall → Valued Want) → IsSend (or_fault (v >>= f)) → or_nothing (v >>= (λ call. Ok (header call ++ call.items))) ≢ []
 packet_some (Ok call) f h = λ e. absurd cc
 packet_some (Err k) f h = absurd h
 

@@ -9,7 +9,7 @@ use Rattle.rank_language.specs.Placed.{Simple}
 use Rattle.rank_language.specs.Block.{Block, done, plain, if_only, if_else, loop, ◌then◌, Line, simple_line, if_line, else_line, end_line, while_line}
 use Rattle.rank_language.specs.Block.{back_line, size, lines_at, places, remaining, next_position}
 use Rattle.rank_language.proofs.Places.{length-lines_at}
-use Rattle.crash_free.specs.LiveVariables.Names.{Name, place, status, mentions, reads, writes}
+use Rattle.crash_free.specs.LiveVariables.Names.{StoredName, place, status, mentions, reads, writes}
 use Rattle.crash_free.specs.LiveVariables.Unread.{passes, reads_first}
 use Rattle.crash_free.specs.LiveVariables.Live.{line_reads, line_writes, holds_at, claimed, AllHold, IsRow, Table, row_of, IsTableOf}
 use Rattle.crash_free.specs.LiveVariables.Given.{GivesItems}
@@ -18,21 +18,21 @@ use Rattle.rank_machine.specs.States.{opening}
 use Rattle.crash_free.proofs.LiveVariablesLaws.Ways.{Either, then_reads}
 
 -- the claims for lines, the first of them at position n, hold
-abbrev Checked : Name → (ℕ → Bool) → ℕ → List Line → Type 0
+abbrev Checked : StoredName → (ℕ → Bool) → ℕ → List Line → Type 0
 Checked x c n [] = Unit {0}
 Checked x c n (l ∷ ls) = (c n ≡ true → holds_at x c n l ≡ true) × Checked x c (n + 1) ls
 
 -- from an equal position on
-moved : (x : Name) (c : ℕ → Bool) (m n : ℕ) (ls : List Line) → m ≡ n → Checked x c m ls → Checked x c n ls
+moved : (x : StoredName) (c : ℕ → Bool) (m n : ℕ) (ls : List Line) → m ≡ n → Checked x c m ls → Checked x c n ls
 moved x c m n ls q h = subst (λ k. Checked x c k ls) q h
 
 -- those of the first lines
-front : (x : Name) (c : ℕ → Bool) (n : ℕ) (xs ys : List Line) → Checked x c n (xs ++ ys) → Checked x c n xs
+front : (x : StoredName) (c : ℕ → Bool) (n : ℕ) (xs ys : List Line) → Checked x c n (xs ++ ys) → Checked x c n xs
 front x c n [] ys h = tt
 front x c n (l ∷ ls) ys h = (h.0, front x c (n + 1) ls ys h.1)
 
 -- those of the lines behind
-back : (x : Name) (c : ℕ → Bool) (n m : ℕ) (xs ys : List Line) → n + length xs ≡ m → Checked x c n (xs ++ ys) → Checked x c m ys
+back : (x : StoredName) (c : ℕ → Bool) (n m : ℕ) (xs ys : List Line) → n + length xs ≡ m → Checked x c n (xs ++ ys) → Checked x c m ys
 back x c n m [] ys q h = moved x c n m ys (omega (arith, q)) h
 back x c n m (l ∷ ls) ys q h = back x c (n + 1) m ls ys (omega (arith, q)) h.1
 
@@ -48,16 +48,16 @@ not_both false r f = refl
 
 -- A list of statements at position n, where its claim holds: it doesn't read the name first, and
 -- where a way goes through it the name is claimed behind.
-record Whole (x : Name) (c : ℕ → Bool) (n : ℕ) (b : Block) : Type 0 where
+record Whole (x : StoredName) (c : ℕ → Bool) (n : ℕ) (b : Block) : Type 0 where
   unread : reads_first x b ≡ false
   after : passes x b ≡ true → c (n + size b) ≡ true
 
 -- what a line's claim says
-read_not : (x : Name) (c : ℕ → Bool) (n : ℕ) (l : Line) → holds_at x c n l ≡ true → line_reads x l ≡ false
+read_not : (x : StoredName) (c : ℕ → Bool) (n : ℕ) (l : Line) → holds_at x c n l ≡ true → line_reads x l ≡ false
 read_not x c n l h = denied (line_reads x l) (and_parts (not (line_reads x l)) _ h).0
 
 -- and it is written there, or unread in both places that may come next
-leads : (x : Name) (c : ℕ → Bool) (n : ℕ) (l : Line) → holds_at x c n l ≡ true
+leads : (x : StoredName) (c : ℕ → Bool) (n : ℕ) (l : Line) → holds_at x c n l ≡ true
     → (line_writes x l ≡ true) ⊎ ((c (next_position l n true) ≡ true) × (c (next_position l n false) ≡ true))
 leads x c n l h = go (or_cases (line_writes x l) _ (and_parts (not (line_reads x l)) _ h).1)
   where
@@ -67,7 +67,7 @@ leads x c n l h = go (or_cases (line_writes x l) _ (and_parts (not (line_reads x
     go (inr b) = inr (and_parts (c (next_position l n true)) (c (next_position l n false)) b)
 
 -- a line that writes nothing leads where it is claimed
-leads_on : (x : Name) (c : ℕ → Bool) (n : ℕ) (l : Line) → line_writes x l ≡ false → holds_at x c n l ≡ true
+leads_on : (x : StoredName) (c : ℕ → Bool) (n : ℕ) (l : Line) → line_writes x l ≡ false → holds_at x c n l ≡ true
     → (c (next_position l n true) ≡ true) × (c (next_position l n false) ≡ true)
 leads_on x c n l none h = go (leads x c n l h)
   where
@@ -81,7 +81,7 @@ pub at : (c : ℕ → Bool) (m n : ℕ) → m ≡ n → c m ≡ true → c n ≡
 at c m n q h = subst (λ k. c k ≡ true) q h
 
 -- a statement, in front of others
-whole_plain : (x : Name) (c : ℕ → Bool) (n : ℕ) (s : Simple) (r : Block) → holds_at x c n (simple_line s) ≡ true → (c (n + 1) ≡ true → Whole x c (n + 1) r)
+whole_plain : (x : StoredName) (c : ℕ → Bool) (n : ℕ) (s : Simple) (r : Block) → holds_at x c n (simple_line s) ≡ true → (c (n + 1) ≡ true → Whole x c (n + 1) r)
     → Whole x c n (plain s r)
 whole_plain x c n s r h more = go (leads x c n (simple_line s) h)
   where
@@ -106,7 +106,7 @@ whole_plain x c n s r h more = go (leads x c n (simple_line s) h)
         }
 
 -- so each list of statements
-whole : (x : Name) (c : ℕ → Bool) (n : ℕ) (b : Block) → Checked x c n (lines_at n b) → c n ≡ true → Whole x c n b
+whole : (x : StoredName) (c : ℕ → Bool) (n : ℕ) (b : Block) → Checked x c n (lines_at n b) → c n ≡ true → Whole x c n b
 whole x c n done h e = record { unread = refl; after = λ f. at c n (n + 0) (omega arith) e }
 whole x c n (plain s r) h e = whole_plain x c n s r (h.0 e) (λ f. whole x c (n + 1) r h.1 f)
 whole x c n (if_only v y r) h e =
@@ -167,7 +167,7 @@ whole x c n (loop v y r) h e =
     }
 
 -- a list in front of others that don't read the name first where it is claimed
-unread_then : (x : Name) (c : ℕ → Bool) (n : ℕ) (b k : Block) → (c n ≡ true → Whole x c n b) → (c (n + size b) ≡ true → reads_first x k ≡ false)
+unread_then : (x : StoredName) (c : ℕ → Bool) (n : ℕ) (b k : Block) → (c n ≡ true → Whole x c n b) → (c (n + size b) ≡ true → reads_first x k ≡ false)
     → c n ≡ true → reads_first x (b then k) ≡ false
 unread_then x c n b k w after e = false_from_ne_true (reads_first x (b then k)) (λ f. go (w e) (then_reads x b k f))
   where
@@ -176,20 +176,20 @@ unread_then x c n b k w after e = false_from_ne_true (reads_first x (b then k)) 
     go w (inr p) = let g = after (w.after p.0) in let f = p.1 in cc
 
 -- the claims for what remains from position n on are right
-abbrev Right : Name → (ℕ → Bool) → ℕ → List Block → Type 0
+abbrev Right : StoredName → (ℕ → Bool) → ℕ → List Block → Type 0
 Right x c n [] = Unit {0}
 Right x c n (b ∷ bs) = (c n ≡ true → reads_first x b ≡ false) × Right x c (n + 1) bs
 
 -- at a position that is the same
-right_at : (x : Name) (c : ℕ → Bool) (m n : ℕ) (bs : List Block) → m ≡ n → Right x c m bs → Right x c n bs
+right_at : (x : StoredName) (c : ℕ → Bool) (m n : ℕ) (bs : List Block) → m ≡ n → Right x c m bs → Right x c n bs
 right_at x c m n bs q h = subst (λ k. Right x c k bs) q h
 
 -- in front of others
-assoc : (x : Name) (c : ℕ → Bool) (n : ℕ) (xs ys zs : List Block) → Right x c n (xs ++ (ys ++ zs)) → Right x c n ((xs ++ ys) ++ zs)
+assoc : (x : StoredName) (c : ℕ → Bool) (n : ℕ) (xs ys zs : List Block) → Right x c n (xs ++ (ys ++ zs)) → Right x c n ((xs ++ ys) ++ zs)
 assoc x c n xs ys zs h = subst (λ bs. Right x c n bs) (sym (append_assoc xs ys zs)) h
 
 -- so are those for the places of a list, in front of others for which they are
-right : (x : Name) (c : ℕ → Bool) (n : ℕ) (b k : Block) (bs : List Block) → Checked x c n (lines_at n b) → (c (n + size b) ≡ true → reads_first x k ≡ false)
+right : (x : StoredName) (c : ℕ → Bool) (n : ℕ) (b k : Block) (bs : List Block) → Checked x c n (lines_at n b) → (c (n + size b) ≡ true → reads_first x k ≡ false)
     → Right x c (n + size b) bs → Right x c n (places b k ++ bs)
 right x c n done k bs h after more = right_at x c (n + 0) n bs (omega arith) more
 right x c n (plain s r) k bs h after more = (
@@ -245,13 +245,13 @@ right x c n (loop v y r) k bs h after more =
     )
 
 -- one of them
-one_of : (x : Name) (c : ℕ → Bool) (n : ℕ) (bs : List Block) (p : ℕ) → Right x c n (bs ++ []) → c (n + p) ≡ true → reads_first x (slice_index_or bs p done) ≡ false
+one_of : (x : StoredName) (c : ℕ → Bool) (n : ℕ) (bs : List Block) (p : ℕ) → Right x c n (bs ++ []) → c (n + p) ≡ true → reads_first x (slice_index_or bs p done) ≡ false
 one_of x c n [] p h e = refl
 one_of x c n (b ∷ bs) zero h e = h.0 (at c (n + 0) n (omega arith) e)
 one_of x c n (b ∷ bs) (suc p) h e = one_of x c (n + 1) bs p h.1 (at c (n + suc p) (n + 1 + p) (omega arith) e)
 
 -- claims that hold for each line, each by itself, are checked
-checked : (x : Name) (c : ℕ → Bool) (n : ℕ) (ls : List Line)
+checked : (x : StoredName) (c : ℕ → Bool) (n : ℕ) (ls : List Line)
     → ((p : ℕ) (l : Line) → slice_get ls p ≡ Some l → c (n + p) ≡ true → holds_at x c (n + p) l ≡ true) → Checked x c n ls
 checked x c n [] f = tt
 checked x c n (l ∷ ls) f = (
@@ -278,7 +278,7 @@ pub of_each : (ls : List Line) (P : ℕ → Line → Type 0) (n : ℕ) → lengt
 of_each ls P n all f p l there = f p l (let low = slice_get_within ls p l there in omega (arith, all, low)) there
 
 -- so each claim of a row that holds for each line of a tree is right
-pub row_is_right : (x : Name) (row : List Bool) (t : Block) (ls : List Line) → ls ≡ lines_at 0 t → AllHold x row ls → (p : ℕ) → claimed row p ≡ true
+pub row_is_right : (x : StoredName) (row : List Bool) (t : Block) (ls : List Line) → ls ≡ lines_at 0 t → AllHold x row ls → (p : ℕ) → claimed row p ≡ true
     → reads_first x (remaining t p) ≡ false
 row_is_right x row t ls is hold p e =
     one_of x (claimed row) 0 (places t done) p
@@ -294,6 +294,6 @@ pub is_table : (program : ProgramValue) (t : Table) → ((p : ℕ) → IsRow pro
     → ((rank size : ℕ) → GivesItems (opening program rank size)) → IsTableOf program t
 is_table program t variables last items = record { rows = λ x. by x; items = items }
   where
-    by : (x : Name) → IsRow program x (row_of t x)
+    by : (x : StoredName) → IsRow program x (row_of t x)
     by (place p) = variables p
     by status = last

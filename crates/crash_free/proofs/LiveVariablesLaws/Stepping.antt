@@ -7,11 +7,11 @@ use Rattle.rank_language.specs.Placed.{barrier, broadcast, reduce, collect}
 use Rattle.rank_language.specs.Block.{Block, done, plain, if_only, if_else, loop, taken}
 use Rattle.rank_machine.specs.declared.fault.MachineFault.{MachineFault}
 use Rattle.rank_machine.specs.Values.{Store, Valued, ◌>>=◌, value, is_zero}
-use Rattle.rank_machine.specs.Collectives.{Call, called, Part, gives, gets, ends, part_of, counted, folded, with_at, ended, unfaulted, ended_at, ended_by}
+use Rattle.rank_machine.specs.Collectives.{CollectiveCall, called, Part, gives, gets, ends, part_of, counted, folded, with_at, ended, unfaulted, ended_at, ended_by}
 use Rattle.rank_machine.specs.Collectives.{own_end, stored_or}
 use Rattle.rank_machine.specs.States.{State, Inners, here, on, item_value, assigned, item_assigned}
 use Rattle.rank_machine.specs.States.{after_test, after_value, inner_rest, inner_store, inner_of, inner}
-use Rattle.crash_free.specs.LiveVariables.Names.{Name, place, status, is_place, collective_reads, reads, writes}
+use Rattle.crash_free.specs.LiveVariables.Names.{StoredName, place, status, is_place, collective_reads, reads, writes}
 use Rattle.crash_free.specs.LiveVariables.Unread.{reads_first}
 use Rattle.crash_free.specs.LiveVariables.Agrees.{Same, SameWhere, Agrees}
 use Rattle.crash_free.proofs.LiveVariablesLaws.Where.{fewer, left_of, variable_same}
@@ -34,13 +34,13 @@ none_behind r c (Ok x) e = cc
 none_behind r c (Err k) e = absurd cc
 
 -- a variable that gets a value has the same in both
-assigned_same : (p : ℕ) (v : Valued ℤ) (r c : Block) (s s' : Store) (among : Name → Bool) → SameWhere among s s' → after_value r v ≡ Some c
+assigned_same : (p : ℕ) (v : Valued ℤ) (r c : Block) (s s' : Store) (among : StoredName → Bool) → SameWhere among s s' → after_value r v ≡ Some c
     → SameWhere (λ n. among n || is_place p n) (assigned s p v) (assigned s' p v)
 assigned_same p (Ok z) r c s s' among h e = variable_same among p z s s' h
 assigned_same p (Err k) r c s s' among h e = absurd cc
 
 -- and so has an item
-item_assigned_same : (p : ℕ) (v : Valued (ℕ × ℤ)) (s s' : Store) (among : Name → Bool) → SameWhere among s s'
+item_assigned_same : (p : ℕ) (v : Valued (ℕ × ℤ)) (s s' : Store) (among : StoredName → Bool) → SameWhere among s s'
     → SameWhere among (item_assigned s p v) (item_assigned s' p v)
 item_assigned_same p (Ok x) s s' among h =
     record {
@@ -54,20 +54,20 @@ item_assigned_same p (Ok x) s s' among h =
       same = λ n e. kept n (h.same n e);
     }
   where
-    kept : (n : Name) → Same n s s' → Same n (item_assigned s p (Ok x)) (item_assigned s' p (Ok x))
+    kept : (n : StoredName) → Same n s s' → Same n (item_assigned s p (Ok x)) (item_assigned s' p (Ok x))
     kept (place q) k = k
     kept status k = k
 item_assigned_same p (Err k) s s' among h = h
 
 -- both end a collective with the same stored, or neither does
-abbrev SameEnd : (Name → Bool) → Option Store → Option Store → Type 0
+abbrev SameEnd : (StoredName → Bool) → Option Store → Option Store → Type 0
 SameEnd among None None = Unit {0}
 SameEnd among None (Some t) = ⊥
 SameEnd among (Some t) None = ⊥
 SameEnd among (Some t) (Some t') = SameWhere among t t'
 
 -- a collective is counted in both
-pub counted_same : (among : Name → Bool) (s s' : Store) → SameWhere among s s' → SameWhere among (counted s) (counted s')
+pub counted_same : (among : StoredName → Bool) (s s' : Store) → SameWhere among s s' → SameWhere among (counted s) (counted s')
 counted_same among s s' h =
     record {
       rank = h.rank;
@@ -80,12 +80,12 @@ counted_same among s s' h =
       same = λ n e. kept n (h.same n e);
     }
   where
-    kept : (n : Name) → Same n s s' → Same n (counted s) (counted s')
+    kept : (n : StoredName) → Same n s s' → Same n (counted s) (counted s')
     kept (place q) k = k
     kept status k = k
 
 -- a rank's own step ends both
-ended_same : (c : Collective) (call : Call) (among : Name → Bool) (s s' : Store) → SameWhere among s s'
+ended_same : (c : Collective) (call : CollectiveCall) (among : StoredName → Bool) (s s' : Store) → SameWhere among s s'
     → SameEnd among (unfaulted (ended s c call)) (unfaulted (ended s' c call))
 ended_same barrier call among s s' h = counted_same among s s' h
 ended_same (broadcast root b) call among s s' h = counted_same among s s' h
@@ -105,30 +105,30 @@ ended_same (reduce f root e p) call among s s' h =
     by_fold (Err k) = tt
 
 -- whatever part stands
-own_end_same : (c : Collective) (among : Name → Bool) (s s' : Store) → SameWhere (λ n. collective_reads n c) s s' → SameWhere among s s'
+own_end_same : (c : Collective) (among : StoredName → Bool) (s s' : Store) → SameWhere (λ n. collective_reads n c) s s' → SameWhere among s s'
     → SameEnd among (own_end s c) (own_end s' c)
 own_end_same c among s s' h k =
     subst (λ v. SameEnd among (ended_by s c v) (ended_by s' c (called s' c))) (sym (called_same c s s' h)) (by_call (called s' c))
   where
-    by_part : (call : Call) (p : Part) → SameEnd among (ended_at s c call p) (ended_at s' c call p)
+    by_part : (call : CollectiveCall) (p : Part) → SameEnd among (ended_at s c call p) (ended_at s' c call p)
     by_part call (gives d) = tt
     by_part call (gets d) = tt
     by_part call ends = ended_same c call among s s' k
 
-    by_call : (v : Valued Call) → SameEnd among (ended_by s c v) (ended_by s' c v)
+    by_call : (v : Valued CollectiveCall) → SameEnd among (ended_by s c v) (ended_by s' c v)
     by_call (Ok call) =
         subst (λ p. SameEnd among (ended_at s c call p) (ended_at s' c call (part_of s' call))) (sym (part_of_same call s s' among k)) (by_part call (part_of s' call))
     by_call (Err f) = tt
 
 -- the same statements remain after it
-ends_rest : (r : Block) (among : Name → Bool) (o o' : Option Store) → SameEnd among o o' → option_map (λ s. r) o ≡ option_map (λ s. r) o'
+ends_rest : (r : Block) (among : StoredName → Bool) (o o' : Option Store) → SameEnd among o o' → option_map (λ s. r) o ≡ option_map (λ s. r) o'
 ends_rest r among None None h = refl
 ends_rest r among None (Some t) h = absurd h
 ends_rest r among (Some t) None h = absurd h
 ends_rest r among (Some t) (Some t') h = refl
 
 -- and the same is stored
-ends_store : (r c : Block) (among : Name → Bool) (s s' : Store) (o o' : Option Store) → SameEnd among o o' → option_map (λ s. r) o ≡ Some c
+ends_store : (r c : Block) (among : StoredName → Bool) (s s' : Store) (o o' : Option Store) → SameEnd among o o' → option_map (λ s. r) o ≡ Some c
     → SameWhere among (stored_or s o) (stored_or s' o') × (c ≡ r)
 ends_store r c among s s' None None h e = absurd cc
 ends_store r c among s s' None (Some t) h e = absurd h
@@ -163,7 +163,7 @@ tested_same b c (Ok z) s s' h e =
 tested_same b c (Err k) s s' h e = absurd cc
 
 -- a statement that writes nothing leaves what is stored
-pub unwritten : (x : Simple) (r c : Block) (s s' t t' : Store) → ((n : Name) → writes n x ≡ false) → c ≡ r
+pub unwritten : (x : Simple) (r c : Block) (s s' t t' : Store) → ((n : StoredName) → writes n x ≡ false) → c ≡ r
     → SameWhere (λ n. reads_first n (plain x r)) t t' → SameWhere (λ n. reads_first n c) t t'
 unwritten x r c s s' t t' none is h =
     subst (λ k. SameWhere (λ n. reads_first n k) t t') (sym is)
@@ -175,7 +175,7 @@ unwritten x r c s s' t t' none is h =
     by false true f e = absurd cc
     by false false f e = e
 
-    only : (n : Name) → (reads_first n (plain x r) || writes n x) ≡ true → reads_first n (plain x r) ≡ true
+    only : (n : StoredName) → (reads_first n (plain x r) || writes n x) ≡ true → reads_first n (plain x r) ≡ true
     only n e = by (reads_first n (plain x r)) (writes n x) (none n) e
 
 -- what is stored after an inner step agrees on what remains
@@ -202,7 +202,7 @@ inner_store_same (plain (probe d t) r) c s s' h e = absurd cc
 inner_store_same (plain (try_probe d t x) r) c s s' h e = absurd cc
 inner_store_same (plain (print e) r) c s s' h f = absurd cc
 inner_store_same (plain (collect x) r) c s s' h f =
-    let among : Name → Bool = λ n. reads_first n (plain (collect x) r) in
+    let among : StoredName → Bool = λ n. reads_first n (plain (collect x) r) in
     let k = ends_store r c among s s' (own_end s x) (own_end s' x) (own_end_same x among s s' (read_here (collect x) r s s' h) h) f in
     unwritten (collect x) r c s s' (stored_or s (own_end s x)) (stored_or s' (own_end s' x)) (λ n. refl) k.1 k.0
 inner_store_same (if_only e y r) c s s' h f = tested_same (if_only e y r) c (value s e) s s' h f

@@ -6,11 +6,11 @@ use Rattle.rank_language.specs.Block.{Block, done, plain, if_only, if_else, loop
 use Rattle.rank_machine.specs.declared.want.Want.TheVariants as want
 use Rattle.rank_machine.specs.declared.fault.MachineFault.{MachineFault}
 use Rattle.rank_machine.specs.Values.{Store, Valued, ◌>>=◌, value}
-use Rattle.rank_machine.specs.Collectives.{Call, called, Part, gives, gets, ends, part_of, folded, with_at}
+use Rattle.rank_machine.specs.Collectives.{CollectiveCall, called, Part, gives, gets, ends, part_of, folded, with_at}
 use Rattle.rank_machine.specs.States.{State, item_value}
 use Rattle.rank_machine.specs.Wants.{selector_of, part_want, collective_want, simple_want, first_want}
 use Rattle.rank_machine.specs.Wants.{or_fault, want_of, wants, or_nothing, packet_items, first_payload, payload}
-use Rattle.crash_free.specs.LiveVariables.Names.{Name, mentions, pattern_reads, payload_reads, collective_reads, reads, writes}
+use Rattle.crash_free.specs.LiveVariables.Names.{StoredName, mentions, pattern_reads, payload_reads, collective_reads, reads, writes}
 use Rattle.crash_free.specs.LiveVariables.Unread.{reads_first}
 use Rattle.crash_free.specs.LiveVariables.Agrees.{SameWhere, Agrees}
 use Rattle.crash_free.proofs.LiveVariablesLaws.Where.{left_of, right_of}
@@ -40,7 +40,7 @@ same_want (Ok z) f g = refl
 same_want (Err k) f g = refl
 
 -- a part of a collective is the same
-part_same : (c : Collective) (call : Call) (p : Part) (s s' : Store) (among : Name → Bool) → SameWhere among s s'
+part_same : (c : Collective) (call : CollectiveCall) (p : Part) (s s' : Store) (among : StoredName → Bool) → SameWhere among s s'
     → part_want s c call p ≡ part_want s' c call p
 part_same c call (gives dest) s s' among h = refl
 part_same c call (gets source) s s' among h = refl
@@ -50,14 +50,14 @@ part_same (reduce f root e p) call ends s s' among h =
     rw (h.rank, h.gathered) (same_want (folded f (with_at s'.rank call.items s'.gathered)) _ _)
 
 -- the part that stands is the same
-pub part_of_same : (call : Call) (s s' : Store) (among : Name → Bool) → SameWhere among s s' → part_of s call ≡ part_of s' call
+pub part_of_same : (call : CollectiveCall) (s s' : Store) (among : StoredName → Bool) → SameWhere among s s' → part_of s call ≡ part_of s' call
 part_of_same call s s' among h = rw (h.size, h.rank, h.parts) refl
 
 -- a collective wants the same
 collective_same : (c : Collective) (s s' : Store) → SameWhere (λ x. collective_reads x c) s s' → collective_want s c ≡ collective_want s' c
 collective_same c s s' h = ap (λ v. v >>= (λ call. part_want s c call (part_of s call))) (called_same c s s' h) ∙ by_call (called s' c)
   where
-    by_call : (v : Valued Call) → (v >>= (λ call. part_want s c call (part_of s call))) ≡ (v >>= (λ call. part_want s' c call (part_of s' call)))
+    by_call : (v : Valued CollectiveCall) → (v >>= (λ call. part_want s c call (part_of s call))) ≡ (v >>= (λ call. part_want s' c call (part_of s' call)))
     by_call (Ok call) =
         ap (part_want s c call) (part_of_same call s s' (λ x. collective_reads x c) h) ∙ part_same c call (part_of s' call) s s' (λ x. collective_reads x c) h
     by_call (Err k) = refl
@@ -87,7 +87,7 @@ pub read_here : (x : Simple) (r : Block) (s s' : Store) → SameWhere (λ n. rea
 read_here x r s s' h = left_of (λ n. reads n x) (λ n. not (writes n x) && reads_first n r) s s' h
 
 -- those of what a test tests
-pub tested_here : (e : Placed) (more : Name → Bool) (s s' : Store) → SameWhere (λ n. mentions n e || more n) s s' → value s e ≡ value s' e
+pub tested_here : (e : Placed) (more : StoredName → Bool) (s s' : Store) → SameWhere (λ n. mentions n e || more n) s s' → value s e ≡ value s' e
 tested_here e more s s' h = value_same e s s' (left_of (λ n. mentions n e) more s s' h)
 
 -- the first statement wants the same

@@ -3,15 +3,15 @@
 use Rattle.std.proofs.Common.{◌≡◌, Bool, true, false, not, ◌||◌, ◌&&◌, refl, ◌⊎◌, inl, inr}
 use Rattle.std.proofs.lemmas.Bool.{or_cases, and_parts, and_from, or_left, or_right}
 use Rattle.rank_language.specs.Block.{Block, done, plain, if_only, if_else, loop, ◌then◌, taken}
-use Rattle.crash_free.specs.LiveVariables.Names.{Name, mentions, reads, writes}
+use Rattle.crash_free.specs.LiveVariables.Names.{StoredName, mentions, reads, writes}
 use Rattle.crash_free.specs.LiveVariables.Unread.{passes, reads_first}
 
 -- It is read first by the one list, or a way goes through that and it is read first by the other.
-abbrev pub Either : Name → Block → Block → Type 0
+abbrev pub Either : StoredName → Block → Block → Type 0
 Either x b k = (reads_first x b ≡ true) ⊎ ((passes x b ≡ true) × (reads_first x k ≡ true))
 
 -- what both read first is read so
-pub then_reads : (x : Name) (b k : Block) → reads_first x (b then k) ≡ true → Either x b k
+pub then_reads : (x : StoredName) (b k : Block) → reads_first x (b then k) ≡ true → Either x b k
 then_reads x done k e = inr (refl, e)
 then_reads x (plain s r) k e = go (λ f. then_reads x r k f) (or_cases (reads x s) (not (writes x s) && reads_first x (r then k)) e)
   where
@@ -81,7 +81,7 @@ then_reads x (loop e y r) k f = first (λ g. then_reads x r k g) (or_cases (ment
     first more (inr g) = second more (or_cases (reads_first x y) (reads_first x (r then k)) g)
 
 -- what remains after a test reads first only what was read first before it
-pub taken_reads : (x : Name) (truth : Bool) (b : Block) → reads_first x (taken truth b) ≡ true → reads_first x b ≡ true
+pub taken_reads : (x : StoredName) (truth : Bool) (b : Block) → reads_first x (taken truth b) ≡ true → reads_first x b ≡ true
 taken_reads x truth done h = absurd cc
 taken_reads x truth (plain s r) h = h
 taken_reads x true (if_only e y r) h = go (then_reads x y r h)

@@ -5,11 +5,11 @@ use Rattle.std.proofs.lemmas.Bool.{eqb-true, or_cases, cases_lt, cases_eq, or_le
 use Rattle.std.proofs.lemmas.List.{get_or-set_same, get_or-set_other, length-set, get_or_past}
 use Rattle.rank_machine.specs.Values.{Store}
 use Rattle.rank_machine.specs.Acts.{Message, with_variable, with_status}
-use Rattle.crash_free.specs.LiveVariables.Names.{Name, place, status, is_place, is_status}
+use Rattle.crash_free.specs.LiveVariables.Names.{StoredName, place, status, is_place, is_status}
 use Rattle.crash_free.specs.LiveVariables.Agrees.{Same, SameWhere}
 
 -- what agrees on names agrees on fewer
-pub fewer : (among less : Name → Bool) (s s' : Store) → ((x : Name) → less x ≡ true → among x ≡ true) → SameWhere among s s' → SameWhere less s s'
+pub fewer : (among less : StoredName → Bool) (s s' : Store) → ((x : StoredName) → less x ≡ true → among x ≡ true) → SameWhere among s s' → SameWhere less s s'
 fewer among less s s' f h =
     record {
       rank = h.rank;
@@ -23,20 +23,20 @@ fewer among less s s' f h =
     }
 
 -- on the names of the first of two, and on those of the second
-pub left_of : (f g : Name → Bool) (s s' : Store) → SameWhere (λ x. f x || g x) s s' → SameWhere f s s'
+pub left_of : (f g : StoredName → Bool) (s s' : Store) → SameWhere (λ x. f x || g x) s s' → SameWhere f s s'
 left_of f g s s' h = fewer (λ x. f x || g x) f s s' (λ x e. or_left (f x) (g x) e) h
 
 -- and on those of the second
-pub right_of : (f g : Name → Bool) (s s' : Store) → SameWhere (λ x. f x || g x) s s' → SameWhere g s s'
+pub right_of : (f g : StoredName → Bool) (s s' : Store) → SameWhere (λ x. f x || g x) s s' → SameWhere g s s'
 right_of f g s s' h = fewer (λ x. f x || g x) g s s' (λ x e. or_right (f x) (g x) e) h
 
 -- a state agrees with itself
-same_self : (x : Name) (s : Store) → Same x s s
+same_self : (x : StoredName) (s : Store) → Same x s s
 same_self (place p) s = refl
 same_self status s = (refl, refl, refl)
 
 -- so does a store
-pub where_self : (among : Name → Bool) (s : Store) → SameWhere among s s
+pub where_self : (among : StoredName → Bool) (s : Store) → SameWhere among s s
 where_self among s =
     record {
       rank = refl;
@@ -50,12 +50,12 @@ where_self among s =
     }
 
 -- the other way round
-same_back : (x : Name) (s s' : Store) → Same x s s' → Same x s' s
+same_back : (x : StoredName) (s s' : Store) → Same x s s' → Same x s' s
 same_back (place p) s s' h = sym h
 same_back status s s' h = (sym h.0, sym h.1, sym h.2)
 
 -- so of stores
-pub where_back : (among : Name → Bool) (s s' : Store) → SameWhere among s s' → SameWhere among s' s
+pub where_back : (among : StoredName → Bool) (s s' : Store) → SameWhere among s s' → SameWhere among s' s
 where_back among s s' h =
     record {
       rank = sym h.rank;
@@ -69,12 +69,12 @@ where_back among s s' h =
     }
 
 -- and from one to the next
-same_further : (x : Name) (s s' s'' : Store) → Same x s s' → Same x s' s'' → Same x s s''
+same_further : (x : StoredName) (s s' s'' : Store) → Same x s s' → Same x s' s'' → Same x s s''
 same_further (place p) s s' s'' h k = h ∙ k
 same_further status s s' s'' h k = (h.0 ∙ k.0, h.1 ∙ k.1, h.2 ∙ k.2)
 
 -- so of stores
-pub where_further : (among : Name → Bool) (s s' s'' : Store) → SameWhere among s s' → SameWhere among s' s'' → SameWhere among s s''
+pub where_further : (among : StoredName → Bool) (s s' s'' : Store) → SameWhere among s s' → SameWhere among s' s'' → SameWhere among s s''
 where_further among s s' s'' h k =
     record {
       rank = h.rank ∙ k.rank;
@@ -88,7 +88,7 @@ where_further among s s' s'' h k =
     }
 
 -- a variable that gets a value has the same in both, and other names keep theirs
-written_same : (p : ℕ) (z : ℤ) (s s' : Store) (x : Name) (b : Bool) → length s.variables ≡ length s'.variables → (b ≡ true → Same x s s')
+written_same : (p : ℕ) (z : ℤ) (s s' : Store) (x : StoredName) (b : Bool) → length s.variables ≡ length s'.variables → (b ≡ true → Same x s s')
     → (b || is_place p x) ≡ true → Same x (with_variable p z s) (with_variable p z s')
 written_same p z s s' status b long h e = h (only b e)
   where
@@ -118,7 +118,7 @@ written_same p z s s' (place q) b long h e = by_place (cases_eq q p)
         kept (inr t) = absurd (differ (eqb-true q p t))
 
 -- stores are the same on one variable more, which both are given
-pub variable_same : (among : Name → Bool) (p : ℕ) (z : ℤ) (s s' : Store) → SameWhere among s s'
+pub variable_same : (among : StoredName → Bool) (p : ℕ) (z : ℤ) (s s' : Store) → SameWhere among s s'
     → SameWhere (λ x. among x || is_place p x) (with_variable p z s) (with_variable p z s')
 variable_same among p z s s' h =
     record {
@@ -133,7 +133,7 @@ variable_same among p z s s' h =
     }
 
 -- after a message both have its status, and variables keep their values
-status_kept : (n : ℕ) (m : Message) (s s' : Store) (x : Name) (b : Bool) → (b ≡ true → Same x s s') → (b || is_status x) ≡ true
+status_kept : (n : ℕ) (m : Message) (s s' : Store) (x : StoredName) (b : Bool) → (b ≡ true → Same x s s') → (b || is_status x) ≡ true
     → Same x (with_status n m s) (with_status n m s')
 status_kept n m s s' status b h e = (refl, refl, refl)
 status_kept n m s s' (place q) b h e = h (only b e)
@@ -143,7 +143,7 @@ status_kept n m s s' (place q) b h e = h (only b e)
     only false e = e
 
 -- so with the words of a status
-pub status_same : (among : Name → Bool) (n : ℕ) (m : Message) (s s' : Store) → SameWhere among s s'
+pub status_same : (among : StoredName → Bool) (n : ℕ) (m : Message) (s s' : Store) → SameWhere among s s'
     → SameWhere (λ x. among x || is_status x) (with_status n m s) (with_status n m s')
 status_same among n m s s' h =
     record {
@@ -158,7 +158,7 @@ status_same among n m s s' h =
     }
 
 -- nothing more is written
-pub nothing_more : (among : Name → Bool) (s s' : Store) → SameWhere among s s' → SameWhere (λ x. among x || false) s s'
+pub nothing_more : (among : StoredName → Bool) (s s' : Store) → SameWhere among s s' → SameWhere (λ x. among x || false) s s'
 nothing_more among s s' h = fewer among (λ x. among x || false) s s' (λ x e. only (among x) e) h
   where
     only : (b : Bool) → (b || false) ≡ true → b ≡ true

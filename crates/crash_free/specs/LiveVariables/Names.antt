@@ -10,17 +10,17 @@ use Rattle.rank_language.specs.Placed.{send, receive, probe, try_probe, print, C
 
 -- what may be read and written: a variable by its place, or the status, which is source, tag and
 -- count of the last message together
-pub data Name : Type 0 where
-  place : (p : ℕ) → Name
-  status : Name
+pub data StoredName : Type 0 where
+  place : (p : ℕ) → StoredName
+  status : StoredName
 
 -- it is the variable at this place
-abbrev pub is_place : ℕ → Name → Bool
+abbrev pub is_place : ℕ → StoredName → Bool
 is_place p (place q) = q == p
 is_place p status = false
 
 -- it is the status
-abbrev pub is_status : Name → Bool
+abbrev pub is_status : StoredName → Bool
 is_status (place q) = false
 is_status status = true
 
@@ -33,7 +33,7 @@ reads_status Tag = true
 reads_status Count = true
 
 -- an expression reads it
-abbrev pub mentions : Name → Placed → Bool
+abbrev pub mentions : StoredName → Placed → Bool
 mentions x (number n) = false
 mentions x (variable p) = is_place p x
 mentions x (item p e) = mentions x e
@@ -42,28 +42,28 @@ mentions x (negation e) = mentions x e
 mentions x (operation o a b) = mentions x a || mentions x b
 
 -- a source or a tag that is asked for reads it
-abbrev pub pattern_reads : Name → Pattern → Bool
+abbrev pub pattern_reads : StoredName → Pattern → Bool
 pattern_reads x any = false
 pattern_reads x (value e) = mentions x e
 
 -- what a send gives reads it
-abbrev pub payload_reads : Name → Payload → Bool
+abbrev pub payload_reads : StoredName → Payload → Bool
 payload_reads x (one e) = mentions x e
 payload_reads x (all_of p) = false
 
 -- it is the variable that a buffer is
-abbrev pub is_buffer : Name → Buffer → Bool
+abbrev pub is_buffer : StoredName → Buffer → Bool
 is_buffer x (into_variable p) = is_place p x
 is_buffer x (into_array p) = false
 
 -- a collective reads it: a broadcast reads its buffer too, which the root gives
-abbrev pub collective_reads : Name → Collective → Bool
+abbrev pub collective_reads : StoredName → Collective → Bool
 collective_reads x barrier = false
 collective_reads x (broadcast root b) = mentions x root || is_buffer x b
 collective_reads x (reduce f root e p) = mentions x root || mentions x e
 
 -- a statement reads it
-abbrev pub reads : Name → Simple → Bool
+abbrev pub reads : StoredName → Simple → Bool
 reads x (declare p) = false
 reads x (declare_array p) = false
 reads x (assign p e) = mentions x e
@@ -78,7 +78,7 @@ reads x (collect c) = collective_reads x c
 -- A statement surely writes it, if it is done without a fault. A probe that doesn't wait may miss
 -- and leave the status, and a reduction writes the variable of its root alone, so neither is sure;
 -- a declaration writes nothing.
-abbrev pub writes : Name → Simple → Bool
+abbrev pub writes : StoredName → Simple → Bool
 writes x (declare p) = false
 writes x (declare_array p) = false
 writes x (assign p e) = is_place p x

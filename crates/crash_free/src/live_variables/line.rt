@@ -5,11 +5,11 @@ ghost use Rattle.crash_free.specs.LiveVariables.Names.{pattern_reads, payload_re
 ghost use Rattle.crash_free.specs.LiveVariables.Live.{line_reads, line_writes};
 ghost use Rattle.crash_free.specs.LiveVariables.Seen.{name_of};
 
-use crate::live_variables::name::Name;
+use crate::live_variables::name::StoredName;
 use rank_language::{Buffer, Collective, Pattern, Payload, Statement};
 
 /// Whether the statement reads it.
-pub fn reads(name: Name, statement: &Statement) -> bool
+pub fn reads(name: StoredName, statement: &Statement) -> bool
     ensures { result ≡ line_reads (name_of name) (line_of statement.now) }
 {
     match statement {
@@ -38,7 +38,7 @@ pub fn reads(name: Name, statement: &Statement) -> bool
 }
 
 /// Whether the statement surely writes it, if it is done without a fault.
-pub fn writes(name: Name, statement: &Statement) -> bool
+pub fn writes(name: StoredName, statement: &Statement) -> bool
     ensures { result ≡ line_writes (name_of name) (line_of statement.now) }
 {
     match statement {
@@ -60,7 +60,7 @@ pub fn writes(name: Name, statement: &Statement) -> bool
     }
 }
 
-fn pattern_reads(name: Name, pattern: &Pattern) -> bool
+fn pattern_reads(name: StoredName, pattern: &Pattern) -> bool
     ensures { result ≡ pattern_reads (name_of name) (pattern_of pattern.now) }
 {
     match pattern {
@@ -69,7 +69,7 @@ fn pattern_reads(name: Name, pattern: &Pattern) -> bool
     }
 }
 
-fn payload_reads(name: Name, payload: &Payload) -> bool
+fn payload_reads(name: StoredName, payload: &Payload) -> bool
     ensures { result ≡ payload_reads (name_of name) (payload_of payload.now) }
 {
     match payload {
@@ -78,7 +78,7 @@ fn payload_reads(name: Name, payload: &Payload) -> bool
     }
 }
 
-fn is_buffer(name: Name, buffer: &Buffer) -> bool
+fn is_buffer(name: StoredName, buffer: &Buffer) -> bool
     ensures { result ≡ is_buffer (name_of name) (buffer_of buffer.now) }
 {
     match buffer {
@@ -87,7 +87,7 @@ fn is_buffer(name: Name, buffer: &Buffer) -> bool
     }
 }
 
-fn collective_reads(name: Name, collective: &Collective) -> bool
+fn collective_reads(name: StoredName, collective: &Collective) -> bool
     ensures { result ≡ collective_reads (name_of name) (collective_of collective.now) }
 {
     match collective {

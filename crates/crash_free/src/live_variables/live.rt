@@ -7,7 +7,7 @@ ghost use Rattle.crash_free.specs.LiveVariables.Given.{GivesItems};
 ghost use Rattle.crash_free.specs.LiveVariables.Names.{place, status};
 ghost use Rattle.crash_free.specs.LiveVariables.Live.{IsTableOf, IsRow, row_of, claimed};
 
-use crate::live_variables::name::Name;
+use crate::live_variables::name::StoredName;
 use crate::live_variables::row::Claims;
 use crate::live_variables::unread::unread;
 use limits::Heap;
@@ -39,9 +39,9 @@ impl Live {
         gives_items(program);
         let mut variables = Vec::new(alloc);
         for place in 0..program.variable_count() {
-            variables.push(unread(alloc, program, Name::Variable(place))?)?;
+            variables.push(unread(alloc, program, StoredName::Variable(place))?)?;
         }
-        let status = unread(alloc, program, Name::Status)?;
+        let status = unread(alloc, program, StoredName::Status)?;
         Ok(Live { variables, status })
     }
 

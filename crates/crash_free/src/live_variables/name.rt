@@ -8,21 +8,21 @@ use rank_language::{Expression, Operand, Reading};
 
 /// What may be read and written.
 #[derive(Clone, Copy)]
-pub enum Name {
+pub enum StoredName {
     /// A variable, by its place in the order of declaration.
     Variable(usize),
     /// Source, tag and count of the last message together.
     Status,
 }
 
-impl Name {
+impl StoredName {
     /// Whether it is the variable at this place.
     pub fn is_place(self, place: usize) -> bool
         ensures { result ≡ is_place place (name_of self) }
     {
         match self {
-            Name::Variable(own) => own == place,
-            Name::Status => false,
+            StoredName::Variable(own) => own == place,
+            StoredName::Status => false,
         }
     }
 
@@ -31,8 +31,8 @@ impl Name {
         ensures { result ≡ is_status (name_of self) }
     {
         match self {
-            Name::Variable(_) => false,
-            Name::Status => true,
+            StoredName::Variable(_) => false,
+            StoredName::Status => true,
         }
     }
 

@@ -7,7 +7,7 @@ ghost use Rattle.crash_free.specs.LiveVariables.Live.{holds_at, claimed, AllHold
 ghost use Rattle.crash_free.specs.LiveVariables.Seen.{name_of};
 
 use crate::live_variables::line::{reads, writes};
-use crate::live_variables::name::Name;
+use crate::live_variables::name::StoredName;
 use crate::live_variables::row::Claims;
 use limits::Heap;
 use rank_language::{Program, Statement};
@@ -16,7 +16,7 @@ use std::alloc::AllocError;
 /// For each position of the program, and for its end, whether the name is
 /// unread there. The claims that no line denies, at first all, are looked at
 /// from the last line on, again and again while some were dropped.
-pub fn unread(alloc: Heap, program: &Program, name: Name) -> Result<Claims, AllocError>
+pub fn unread(alloc: Heap, program: &Program, name: StoredName) -> Result<Claims, AllocError>
     ensures { IfOk result (λ row. IsRow program.now (name_of name) row) }
 {
     program.law_within_limits();
@@ -35,7 +35,7 @@ pub fn unread(alloc: Heap, program: &Program, name: Name) -> Result<Claims, Allo
 }
 
 // Whether the claim for the statement at a position is right, if those for the next ones are.
-fn holds_at(name: Name, row: &Claims, position: usize, statement: &Statement) -> bool
+fn holds_at(name: StoredName, row: &Claims, position: usize, statement: &Statement) -> bool
     requires { position < 2 ^ 64 - 1 }
     ensures { result ≡ holds_at (name_of name) (claimed row.now) position (line_of statement.now) }
 {
@@ -48,7 +48,7 @@ fn holds_at(name: Name, row: &Claims, position: usize, statement: &Statement) ->
 }
 
 // The same of the position's statement, if there is one, and if the row claims it.
-fn is_right(program: &Program, name: Name, row: &Claims, position: usize) -> bool
+fn is_right(program: &Program, name: StoredName, row: &Claims, position: usize) -> bool
     ensures { result ≡ true → (l : Line) → slice_get program.now.statements position ≡ Some l → claimed row.now position ≡ true
         → holds_at (name_of name) (claimed row.now) position l ≡ true }
 {
@@ -62,7 +62,7 @@ fn is_right(program: &Program, name: Name, row: &Claims, position: usize) -> boo
 }
 
 // Whether each claim is right if the others are.
-fn all_hold(program: &Program, name: Name, row: &Claims) -> bool
+fn all_hold(program: &Program, name: StoredName, row: &Claims) -> bool
     ensures { result ≡ true → AllHold (name_of name) row.now program.now.statements }
 {
     let lines = program.len();
@@ -77,7 +77,7 @@ fn all_hold(program: &Program, name: Name, row: &Claims) -> bool
 }
 
 // Drops the claims that the others don't bear out, from the last line on: so most go in one round.
-fn drop_some(program: &Program, name: Name, row: &mut Claims) {
+fn drop_some(program: &Program, name: StoredName, row: &mut Claims) {
     let mut position = row.len();
     while position > 0 {
         position -= 1;

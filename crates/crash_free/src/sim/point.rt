@@ -4,7 +4,7 @@ ghost use Rattle.crash_free.specs.Sim.{Simulates};
 ghost use Rattle.crash_free.specs.Points.{IsPointOf, stood};
 
 use crate::act::Passed;
-use crate::lines::Lines;
+use crate::lines::PrintedValues;
 use crate::mail::Mail;
 use crate::sim::Sim;
 use crate::sim::copying::copied;
@@ -19,7 +19,7 @@ use std::marker::Model;
 pub struct Point<'p> {
     machines: Vec<Machine<'p>, Heap>,
     mail: Mail,
-    lines: Lines,
+    lines: PrintedValues,
     made: usize,
 }
 

@@ -12,7 +12,7 @@ use std::alloc::AllocError;
 /// Where a run stood some time ago. It is renewed after twice as many rounds each time, so a cycle
 /// is met in a few times the rounds that it takes, whenever it begins (Brent 1980).
 #[derive(Drop)]
-pub struct Mark {
+pub struct CycleMark {
     standing: Standing,
     // how many acts the run had made there
     made: usize,
@@ -25,15 +25,15 @@ pub struct Mark {
     pub positions: Vec<usize, Heap>,
 }
 
-impl Mark {
+impl CycleMark {
     /// Where the simulation stands. An `Err` means out of memory.
-    pub fn new(alloc: Heap, sim: &Sim<'_>, live: &Live) -> Result<Mark, AllocError>
+    pub fn new(alloc: Heap, sim: &Sim<'_>, live: &Live) -> Result<CycleMark, AllocError>
         requires { IsTableOf sim.now.program live.now }
         ensures { IfOk result (λ mark. WentOnFrom sim.now mark.standing mark.made) }
     {
         let mut standing = Standing::new(alloc);
         write_ranks(sim, live, &mut standing)?;
-        Ok(Mark {
+        Ok(CycleMark {
             standing,
             made: sim.acts().len(),
             now: Standing::new(alloc),
@@ -78,7 +78,7 @@ impl Mark {
     pub fn into_cycle(self, sim: &Sim<'_>) -> Cycle
         ensures before { result.before ≡ self.made }
     {
-        let Mark {
+        let CycleMark {
             standing: _,
             made,
             now: _,

@@ -4,14 +4,14 @@ use Rattle.std.proofs.Common.{slice_get, slice_set, get_or, Some, ◌⊎◌, inl
 use Rattle.std.proofs.lemmas.Bool.Decides.{nat_tests}
 use Rattle.crash_free.proofs.Keeping.{set_cases}
 use Rattle.outcomes.specs.declared.text.form.Entry.{Entry}
-use Rattle.outcomes.specs.declared.text.form.Form.{Form}
-use Rattle.outcomes.specs.declared.text.form.Part.{Part}
-use Rattle.outcomes.specs.declared.text.form.Part.TheVariants as part
-use Rattle.outcomes.specs.declared.text.progress.Progress.{Progress}
+use Rattle.outcomes.specs.declared.text.form.LineForm.{LineForm}
+use Rattle.outcomes.specs.declared.text.form.LinePart.{LinePart}
+use Rattle.outcomes.specs.declared.text.form.LinePart.TheVariants as part
+use Rattle.outcomes.specs.declared.text.progress.RankSoFar.{RankSoFar}
 use Rattle.outcomes.specs.Text.Texts.{after, after_entry, entry_at, entry_of, progress_from, progress_of, rank_of, all_ended, AreProgress}
 
 -- entries, and one more behind them
-progress_from-push : (r : ℕ) (p : Progress) (es : List Entry) (e : Entry) → progress_from r p (es ++ e ∷ []) ≡ after_entry r (progress_from r p es) e
+progress_from-push : (r : ℕ) (p : RankSoFar) (es : List Entry) (e : Entry) → progress_from r p (es ++ e ∷ []) ≡ after_entry r (progress_from r p es) e
 progress_from-push r p [] e = refl
 progress_from-push r p (x ∷ es) e = progress_from-push r (after_entry r p x) es e
 
@@ -26,26 +26,26 @@ of_other r es e other =
     progress_from-push r _ es e ∙ ap (λ b. if b then after (progress_of r es) e else progress_of r es) (ne_eqb (rank_of e) r other)
 
 -- one entry more
-pub one_more : (n k : ℕ) (es : List Entry) (e : Entry) (ps : List Progress) (p : Progress) → AreProgress n es ps → rank_of e ≡ k
+pub one_more : (n k : ℕ) (es : List Entry) (e : Entry) (ps : List RankSoFar) (p : RankSoFar) → AreProgress n es ps → rank_of e ≡ k
     → slice_get ps k ≡ Some p → AreProgress n (es ++ e ∷ []) (slice_set ps k (after p e))
 one_more n k es e ps p kept is at = record {
   width = length-set ps k _ ∙ kept.width;
   each = λ r q there. each r q (set_cases ps k (after p e) r q there);
 }
   where
-    each : (r : ℕ) (q : Progress) → ((k ≡ r) × (q ≡ after p e)) ⊎ ((k ≡ r → ⊥) × (slice_get ps r ≡ Some q)) → q ≡ progress_of r (es ++ e ∷ [])
+    each : (r : ℕ) (q : RankSoFar) → ((k ≡ r) × (q ≡ after p e)) ⊎ ((k ≡ r → ⊥) × (slice_get ps r ≡ Some q)) → q ≡ progress_of r (es ++ e ∷ [])
     each r q (inl own) =
         own.1 ∙ ap (λ z. after z e) (kept.each k p at) ∙ ap (λ z. after (progress_of z es) e) own.0 ∙ sym (of_own r es e (is ∙ own.0))
     each r q (inr others) = kept.each r q others.1 ∙ sym (of_other r es e (λ own. others.0 (sym is ∙ own)))
 
 -- one entry more, of this rank, by what its line says
-pub one_form : (n k number : ℕ) (es : List Entry) (form : Form) (ps : List Progress) (p q : Progress) → AreProgress n es ps → form.rank ≡ k
+pub one_form : (n k number : ℕ) (es : List Entry) (form : LineForm) (ps : List RankSoFar) (p q : RankSoFar) → AreProgress n es ps → form.rank ≡ k
     → slice_get ps k ≡ Some p → ((number rank : ℕ) → q ≡ after p (entry_at number rank form.part))
     → AreProgress n (es ++ entry_of number form ∷ []) (slice_set ps k q)
 one_form n k number es form ps p q kept is at next =
     rw (next number form.rank) (one_more n k es (entry_of number form) ps p kept (of_form number form.rank form.part ∙ is) at)
   where
-    of_form : (number rank : ℕ) (part : Part) → rank_of (entry_at number rank part) ≡ rank
+    of_form : (number rank : ℕ) (part : LinePart) → rank_of (entry_at number rank part) ≡ rank
     of_form number rank (part.Event kind source sent clock) = refl
     of_form number rank (part.Print clock value) = refl
     of_form number rank (part.End end) = refl

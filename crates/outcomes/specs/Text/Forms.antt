@@ -12,9 +12,9 @@ use Rattle.rank_machine.specs.declared.fault.MachineFault.{MachineFault}
 use Rattle.rank_machine.specs.declared.fault.MachineFault.TheVariants.{Overflow, ZeroDivide, Index, BadRank, BadTag, TooLong, CollectiveMismatch}
 use Rattle.audit.specs.declared.outcome.End as ends
 use Rattle.audit.specs.declared.outcome.End.TheVariants.{Halted, Faulted, Stalled, Unfinished}
-use Rattle.outcomes.specs.declared.text.form.Form.{Form}
-use Rattle.outcomes.specs.declared.text.form.Part.{Part}
-use Rattle.outcomes.specs.declared.text.form.Part.TheVariants as part
+use Rattle.outcomes.specs.declared.text.form.LineForm.{LineForm}
+use Rattle.outcomes.specs.declared.text.form.LinePart.{LinePart}
+use Rattle.outcomes.specs.declared.text.form.LinePart.TheVariants as part
 use Rattle.outcomes.specs.Text.Numbers.{rank_in, clock_in, value_in}
 
 -- both are there
@@ -84,30 +84,30 @@ end_of (word ∷ (number ∷ [])) = if bytes_eq word (codes "fault") then faulte
 end_of (word ∷ (number ∷ (more ∷ words))) = None
 
 -- a reception or a hit: an act, and a sender behind it
-abbrev pub message_form : Kind → Option ((ℕ × ℕ) × List (List ℕ)) → Option Form
+abbrev pub message_form : Kind → Option ((ℕ × ℕ) × List (List ℕ)) → Option LineForm
 message_form kind None = None
 message_form kind (Some act) =
     elim (sender_of act.1) [ None ↦ None | Some sender ↦ Some (record { rank = act.0.0; part = part.Event kind sender.0 sender.1 act.0.1 }) ]
 
 -- a miss: an act, and no word behind it
-abbrev pub miss_form : Option ((ℕ × ℕ) × List (List ℕ)) → Option Form
+abbrev pub miss_form : Option ((ℕ × ℕ) × List (List ℕ)) → Option LineForm
 miss_form None = None
 miss_form (Some act) = if is_none act.1 then Some (record { rank = act.0.0; part = part.Event Miss 0 0 act.0.1 }) else None
 
 -- a print: an act, and a value behind it
-abbrev pub print_form : Option ((ℕ × ℕ) × List (List ℕ)) → Option Form
+abbrev pub print_form : Option ((ℕ × ℕ) × List (List ℕ)) → Option LineForm
 print_form None = None
 print_form (Some act) =
     elim (value_of act.1) [ None ↦ None | Some value ↦ Some (record { rank = act.0.0; part = part.Print act.0.1 value }) ]
 
 -- an end: a rank, and how it ended
-abbrev pub end_form : List (List ℕ) → Option Form
+abbrev pub end_form : List (List ℕ) → Option LineForm
 end_form [] = None
 end_form (rank ∷ words) =
     elim (both (rank_in rank) (end_of words)) [ None ↦ None | Some said ↦ Some (record { rank = said.0; part = part.End said.1 }) ]
 
 -- what the line of this name says by these words
-abbrev pub named_form : List ℕ → List (List ℕ) → Option Form
+abbrev pub named_form : List ℕ → List (List ℕ) → Option LineForm
 named_form name words =
     if bytes_eq name (codes "recv") then message_form Reception (act_of words) else (
     if bytes_eq name (codes "hit") then message_form Hit (act_of words) else (
@@ -116,7 +116,7 @@ named_form name words =
     if bytes_eq name (codes "end") then end_form words else None))))
 
 -- what the words of a line say, if they have a form
-abbrev pub form_of : List (List ℕ) → Option Form
+abbrev pub form_of : List (List ℕ) → Option LineForm
 form_of [] = None
 form_of (name ∷ words) = named_form name words
 
@@ -126,7 +126,7 @@ act_seen None = None
 act_seen (Some cut) = Some (cut.0, words_of cut.1.now)
 
 -- the parts of an event are those of one, if its source is a rank
-abbrev pub IsFit : Part → Type 0
+abbrev pub IsFit : LinePart → Type 0
 IsFit (part.Event kind source sent clock) = source ≤ greatest_sender → IsEvent (event_of kind source sent clock)
 IsFit (part.Print clock value) = Unit {0}
 IsFit (part.End end) = Unit {0}

@@ -14,7 +14,7 @@ use std::alloc::AllocError;
 
 /// How far a rank has come.
 #[derive(Clone, Copy)]
-struct Seat {
+struct FollowedRank {
     /// Of its last act.
     clock: u32,
     /// Steps that it may still make.
@@ -31,7 +31,7 @@ struct Seat {
 pub(crate) struct Follower<'a, 'p> {
     pub(crate) run: Sim<'p>,
     outcome: &'a Outcome,
-    seats: [Seat; MOST_RANKS],
+    seats: [FollowedRank; MOST_RANKS],
     /// Each send, by the clock of its act.
     sends: Sends,
     /// Whether there was memory for all of it. If not, no rank goes on.
@@ -39,7 +39,7 @@ pub(crate) struct Follower<'a, 'p> {
 }
 
 // Of a rank that isn't there.
-const EMPTY: Seat = Seat {
+const EMPTY: FollowedRank = FollowedRank {
     clock: 0,
     left: 0,
     events: 0,
@@ -57,7 +57,7 @@ fn line_from(lines: &[Line], rank: u8, first: usize) -> usize {
 }
 
 // No rank has made an act, and each may make so many steps.
-fn seats_of(outcome: &Outcome, ranks: u8, steps: u32) -> [Seat; MOST_RANKS] {
+fn seats_of(outcome: &Outcome, ranks: u8, steps: u32) -> [FollowedRank; MOST_RANKS] {
     let mut seats = [EMPTY; MOST_RANKS];
     for rank in 0..ranks {
         if let Some(seat) = seats.get_mut(usize::from(rank)) {
@@ -274,7 +274,7 @@ impl Follower<'_, '_> {
     }
 
     // How far the rank has come.
-    fn seat(&self, rank: u8) -> Seat {
+    fn seat(&self, rank: u8) -> FollowedRank {
         match self.seats.get(usize::from(rank)) {
             Some(seat) => *seat,
             None => EMPTY,

@@ -13,7 +13,7 @@ use std::alloc::AllocError;
 
 /// How many kills and images are still to be drawn.
 #[derive(Drop)]
-struct Left {
+struct LeftToDraw {
     kills: u8,
     images: u8,
 }
@@ -42,7 +42,7 @@ pub fn draw(
     ensures images { IfOk result (λ lines. images_in lines.items ≤ most.images) }
 {
     let mut rng = Pcg32::new(seed, run);
-    let mut left = Left {
+    let mut left = LeftToDraw {
         kills: rng.random_range(0..=most.kills),
         images: rng.random_range(0..=most.images),
     };
@@ -56,7 +56,7 @@ pub fn draw(
     Ok(lines)
 }
 
-impl Left {
+impl LeftToDraw {
     // Which of the two comes next: each that is left is as likely as another.
     fn next(&mut self, rng: &mut Pcg32) -> Order
         requires { 1 ≤ self.old.kills + self.old.images }

@@ -5,7 +5,7 @@ use event_logger::{Event, Kind};
 /// What a line says of its rank, as its words have it. `u32::MAX` stands for
 /// each greater rank.
 #[derive(Clone, Copy)]
-pub(crate) enum Part {
+pub(crate) enum LinePart {
     /// The rank's act of this clock took or found the message that the source
     /// sent at its clock `sent`, or found none: then both are 0.
     Event {
@@ -23,9 +23,9 @@ pub(crate) enum Part {
 
 /// A rank, and what a line says of it.
 #[derive(Clone, Copy)]
-pub(crate) struct Form {
+pub(crate) struct LineForm {
     pub(crate) rank: u32,
-    pub(crate) part: Part,
+    pub(crate) part: LinePart,
 }
 
 /// What a line says that isn't skipped: its number, from 1, a rank, and what it

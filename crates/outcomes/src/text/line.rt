@@ -5,7 +5,7 @@ ghost use Rattle.rank_text.specs.Lines.Pieces.{words_of};
 ghost use Rattle.outcomes.specs.Text.Forms.{act_of, act_seen, clock_behind, clock_of, end_form, end_of, fault_of, faulted, form_of};
 ghost use Rattle.outcomes.specs.Text.Forms.{message_form, miss_form, plain_end, print_form, sender_of, value_of, IsFit};
 
-use crate::text::form::{Form, Part};
+use crate::text::form::{LineForm, LinePart};
 use crate::text::number::{clock_in, value_in};
 use audit::End;
 use event_logger::Kind;
@@ -127,23 +127,23 @@ fn end_of(line: &[u8]) -> Option<End>
     faulted(decimal(number))
 }
 
-fn message_form(kind: Kind, line: &[u8]) -> Option<Form>
+fn message_form(kind: Kind, line: &[u8]) -> Option<LineForm>
     requires { finds_none kind ≡ false }
     ensures form { result ≡ message_form kind (act_of (words_of line.now)) }
     ensures fit { IfSome result (λ form. IsFit form.part) }
 {
     let ((rank, clock), rest) = act_of(line)?;
     let (source, sent) = sender_of(rest)?;
-    let part = Part::Event {
+    let part = LinePart::Event {
         kind,
         source,
         sent,
         clock,
     };
-    Some(Form { rank, part })
+    Some(LineForm { rank, part })
 }
 
-fn miss_form(line: &[u8]) -> Option<Form>
+fn miss_form(line: &[u8]) -> Option<LineForm>
     ensures form { result ≡ miss_form (act_of (words_of line.now)) }
     ensures fit { IfSome result (λ form. IsFit form.part) }
 {
@@ -151,37 +151,37 @@ fn miss_form(line: &[u8]) -> Option<Form>
     if next_word(rest).is_some() {
         return None;
     }
-    let part = Part::Event {
+    let part = LinePart::Event {
         kind: Kind::Miss,
         source: 0,
         sent: 0,
         clock,
     };
-    Some(Form { rank, part })
+    Some(LineForm { rank, part })
 }
 
-fn print_form(line: &[u8]) -> Option<Form>
+fn print_form(line: &[u8]) -> Option<LineForm>
     ensures form { result ≡ print_form (act_of (words_of line.now)) }
     ensures fit { IfSome result (λ form. IsFit form.part) }
 {
     let ((rank, clock), rest) = act_of(line)?;
     let value = value_of(rest)?;
-    let part = Part::Print { clock, value };
-    Some(Form { rank, part })
+    let part = LinePart::Print { clock, value };
+    Some(LineForm { rank, part })
 }
 
-fn end_form(line: &[u8]) -> Option<Form>
+fn end_form(line: &[u8]) -> Option<LineForm>
     ensures form { result ≡ end_form (words_of line.now) }
     ensures fit { IfSome result (λ form. IsFit form.part) }
 {
     let (rank, rest) = next_word(line)?;
     let rank = decimal(rank)?;
-    let part = Part::End(end_of(rest)?);
-    Some(Form { rank, part })
+    let part = LinePart::End(end_of(rest)?);
+    Some(LineForm { rank, part })
 }
 
 /// What a line says, if it has a form: by its name, and the words behind that.
-pub(crate) fn form_of(line: &[u8]) -> Option<Form>
+pub(crate) fn form_of(line: &[u8]) -> Option<LineForm>
     ensures form { result ≡ form_of (words_of line.now) }
     ensures fit { IfSome result (λ form. IsFit form.part) }
 {

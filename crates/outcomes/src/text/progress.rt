@@ -3,28 +3,28 @@ ghost use Rattle.std.specs.Prelude.{◌≡◌, ℕ};
 ghost use Rattle.outcomes.specs.Text.Texts.{after, entry_at, is_late, is_of_stranger, order_fault};
 
 use crate::text::fault::OutcomeFaultKind;
-use crate::text::form::Part;
+use crate::text::form::LinePart;
 
 /// What the lines so far have of a rank.
 #[derive(Clone, Copy)]
-pub(crate) struct Progress {
+pub(crate) struct RankSoFar {
     /// Of its last act, 0 if there is none.
     pub(crate) clock: u32,
     /// Whether its end stands there.
     pub(crate) ended: bool,
 }
 
-impl Progress {
+impl RankSoFar {
     /// The same after one line more.
-    pub(crate) fn after(self, part: Part) -> Progress
+    pub(crate) fn after(self, part: LinePart) -> RankSoFar
         ensures { (number rank : ℕ) → result ≡ after self (entry_at number rank part) }
     {
         match part {
-            Part::Event { clock, .. } | Part::Print { clock, .. } => Progress {
+            LinePart::Event { clock, .. } | LinePart::Print { clock, .. } => RankSoFar {
                 clock,
                 ended: self.ended,
             },
-            Part::End(_) => Progress {
+            LinePart::End(_) => RankSoFar {
                 clock: self.clock,
                 ended: true,
             },
@@ -32,7 +32,7 @@ impl Progress {
     }
 
     /// The fault of a line behind these.
-    pub(crate) fn fault(self, part: Part) -> Option<OutcomeFaultKind>
+    pub(crate) fn fault(self, part: LinePart) -> Option<OutcomeFaultKind>
         ensures { result ≡ order_fault self part }
     {
         if self.ended {
@@ -45,21 +45,21 @@ impl Progress {
     }
 }
 
-fn is_late(last: u32, part: Part) -> bool
+fn is_late(last: u32, part: LinePart) -> bool
     ensures { result ≡ is_late last part }
 {
     match part {
-        Part::Event { clock, .. } | Part::Print { clock, .. } => clock <= last,
-        Part::End(_) => false,
+        LinePart::Event { clock, .. } | LinePart::Print { clock, .. } => clock <= last,
+        LinePart::End(_) => false,
     }
 }
 
 /// Whether the line's source is none of so many ranks.
-pub(crate) fn is_of_stranger(ranks: u8, part: Part) -> bool
+pub(crate) fn is_of_stranger(ranks: u8, part: LinePart) -> bool
     ensures { result ≡ is_of_stranger ranks part }
 {
     match part {
-        Part::Event { source, .. } => source >= u32::from(ranks),
-        Part::Print { .. } | Part::End(_) => false,
+        LinePart::Event { source, .. } => source >= u32::from(ranks),
+        LinePart::Print { .. } | LinePart::End(_) => false,
     }
 }

@@ -7,9 +7,9 @@ ghost use Rattle.event_logger.specs.Sequential.Event.{event_of, IsEvent};
 ghost use Rattle.rank_text.specs.Lines.Pieces.{words_of};
 
 use crate::text::fault::OutcomeFaultKind;
-use crate::text::form::{Entry, Form, Part};
+use crate::text::form::{Entry, LineForm, LinePart};
 use crate::text::line::form_of;
-use crate::text::progress::{Progress, is_of_stranger};
+use crate::text::progress::{RankSoFar, is_of_stranger};
 use event_logger::{Event, Kind};
 use limits::{Heap, MOST_EVENT_LINES};
 use rank_text::lines::is_skipped;
@@ -17,24 +17,24 @@ use std::alloc::AllocError;
 
 /// What the lines so far say.
 #[derive(Drop)]
-pub(crate) struct Reading {
+pub(crate) struct LinesRead {
     pub(crate) entries: Vec<Entry, Heap>,
     /// By rank.
-    pub(crate) progress: Vec<Progress, Heap>,
+    pub(crate) progress: Vec<RankSoFar, Heap>,
 }
 
-impl Reading {
+impl LinesRead {
     /// Of no line.
-    pub(crate) fn new(alloc: Heap, ranks: u8) -> Result<Reading, AllocError>
+    pub(crate) fn new(alloc: Heap, ranks: u8) -> Result<LinesRead, AllocError>
         ensures none { IfOk result (λ reading. reading.entries.items ≡ []) }
         ensures progress { IfOk result (λ reading. AreProgress ranks [] reading.progress.items) }
     {
-        let none = Progress {
+        let none = RankSoFar {
             clock: 0,
             ended: false,
         };
         let progress = vec![in alloc; none; usize::from(ranks)]?;
-        Ok(Reading {
+        Ok(LinesRead {
             entries: Vec::new(alloc),
             progress,
         })
@@ -47,7 +47,7 @@ impl Reading {
         line: &[u8],
         number: usize,
         ranks: u8,
-    ) -> Result<Option<Form>, OutcomeFaultKind>
+    ) -> Result<Option<LineForm>, OutcomeFaultKind>
         requires { AreProgress ranks self.now.entries.items self.now.progress.items }
         ensures form { IfOk result (λ form. form_by line.now ≡ form) }
         ensures rank { IfOk result (λ form. IfSome form (λ form. is_foreign ranks form ≡ false)) }
@@ -66,7 +66,7 @@ impl Reading {
         Ok(form)
     }
 
-    fn said(&self, line: &[u8], ranks: u8) -> Result<Form, OutcomeFaultKind>
+    fn said(&self, line: &[u8], ranks: u8) -> Result<LineForm, OutcomeFaultKind>
         requires { AreProgress ranks self.now.entries.items self.now.progress.items }
         ensures form { IfOk result (λ form. form_of (words_of line.now) ≡ Some form) }
         ensures rank { IfOk result (λ form. is_foreign ranks form ≡ false) }
@@ -86,7 +86,7 @@ impl Reading {
         }
     }
 
-    fn progress_of(&self, rank: u8, ranks: u8) -> Progress
+    fn progress_of(&self, rank: u8, ranks: u8) -> RankSoFar
         requires rank { rank < ranks }
         requires progress { AreProgress ranks self.now.entries.items self.now.progress.items }
         ensures value { result ≡ progress_of rank self.now.entries.items }
@@ -97,7 +97,7 @@ impl Reading {
 
     /// Notes what the line of this number says. An `Err` means out of memory.
     #[tactic(auto, using(crate::proofs::TextLaws::Following::one_more))]
-    pub(crate) fn add(&mut self, form: Form, number: usize, ranks: u8) -> Result<(), AllocError>
+    pub(crate) fn add(&mut self, form: LineForm, number: usize, ranks: u8) -> Result<(), AllocError>
         requires few { ranks ≤ most_ranks }
         requires rank { is_foreign ranks form ≡ false }
         requires fit { IsFit form.part }
@@ -130,13 +130,13 @@ impl Reading {
     }
 }
 
-fn is_foreign(ranks: u8, form: Form) -> bool
+fn is_foreign(ranks: u8, form: LineForm) -> bool
     ensures { result ≡ is_foreign ranks form }
 {
     form.rank >= u32::from(ranks) || is_of_stranger(ranks, form.part)
 }
 
-fn entry_of(form: Form, number: usize, ranks: u8) -> Entry
+fn entry_of(form: LineForm, number: usize, ranks: u8) -> Entry
     requires few { ranks ≤ most_ranks }
     requires rank { is_foreign ranks form ≡ false }
     requires fit { IsFit form.part }
@@ -144,7 +144,7 @@ fn entry_of(form: Form, number: usize, ranks: u8) -> Entry
 {
     let rank = form.rank as u8;
     match form.part {
-        Part::Event {
+        LinePart::Event {
             kind,
             source,
             sent,
@@ -154,13 +154,13 @@ fn entry_of(form: Form, number: usize, ranks: u8) -> Entry
             rank,
             event: event_of(kind, source, sent, clock),
         },
-        Part::Print { clock, value } => Entry::Print {
+        LinePart::Print { clock, value } => Entry::Print {
             line: number,
             rank,
             clock,
             value,
         },
-        Part::End(end) => Entry::End {
+        LinePart::End(end) => Entry::End {
             line: number,
             rank,
             end,

@@ -4,7 +4,7 @@ ghost use Rattle.limits.specs.Limits.{most_ranks};
 
 use crate::text::fault::{OutcomeFault, OutcomeFaultKind, OutcomeParseFault};
 use crate::text::form::Entry;
-use crate::text::reading::Reading;
+use crate::text::reading::LinesRead;
 use limits::Heap;
 use rank_text::lines::next_line;
 use std::alloc::AllocError;
@@ -44,7 +44,7 @@ impl OutcomeText {
         ensures fault { (fault : OutcomeFault) → result ≡ Err (Fault fault)
             → first_fault ranks text.now ≡ Some fault }
     {
-        let Ok(mut reading) = Reading::new(alloc, ranks) else {
+        let Ok(mut reading) = LinesRead::new(alloc, ranks) else {
             return Err(OutcomeParseFault::Memory);
         };
         let mut number = 1;

@@ -15,7 +15,7 @@ use Rattle.rank_text.specs.Checker.Faults.{IsText, IsFaultOf}
 use Rattle.rank_text.specs.Checker.Scope.{Scope, IsWhole, nothing_yet, after, after_all}
 use Rattle.rank_text.specs.Checker.SeenLines.{forms_seen}
 use Rattle.rank_text.specs.Checker.Verdict.{verdict_on, onto_forms, after_line, statements_of, reading_of}
-use Rattle.rank_text.specs.Checker.Progress.{Reading, taken, with_line, step, with_front, going, IsLed, Reads}
+use Rattle.rank_text.specs.Checker.Progress.{StatementsRead, taken, with_line, step, with_front, going, IsLed, Reads}
 use Rattle.rank_text.proofs.CheckerLaws.TextLaws.{read_text, read_fault, program_or_fault}
 use Rattle.rank_text.proofs.CheckerLaws.LineLaws.{Answers, line_answers}
 use Rattle.rank_text.proofs.CheckerLaws.WholeLaws.{in_time, text_whole}
@@ -37,15 +37,15 @@ front_taken fs f (Ok gs) = ap Ok (append_assoc fs (f ∷ []) gs)
 front_taken fs f (Err e) = refl
 
 -- a line more, by how it is judged
-abbrev step_by : Reading → Result (Option Form) FaultKind → Result Reading FaultKind
+abbrev step_by : StatementsRead → Result (Option Form) FaultKind → Result StatementsRead FaultKind
 step_by r a = elim a [ Err k ↦ Err k | Ok o ↦ Ok (with_line r o) ]
 
 -- what the whole text gives, by how the line is judged
-abbrev going_by : Reading → ℕ → List (List ℕ) → Result (Option Form) FaultKind → Result (List Form) (ℕ × FaultKind)
+abbrev going_by : StatementsRead → ℕ → List (List ℕ) → Result (Option Form) FaultKind → Result (List Form) (ℕ × FaultKind)
 going_by r n ls a = with_front r.forms (elim a [ Err k ↦ Err (n, k) | Ok f ↦ onto_forms f (statements_of (after_line r.scope f) (n + 1) ls) ])
 
 -- each judgment without fault goes on with the rest
-goes_by : (r r' : Reading) (n : ℕ) (ls : List (List ℕ)) (a : Result (Option Form) FaultKind) → step_by r a ≡ Ok r'
+goes_by : (r r' : StatementsRead) (n : ℕ) (ls : List (List ℕ)) (a : Result (Option Form) FaultKind) → step_by r a ≡ Ok r'
     → going r' (n + 1) ls ≡ going_by r n ls a
 goes_by r r' n ls (Err k) q = absurd cc
 goes_by r r' n ls (Ok None) q =
@@ -56,29 +56,29 @@ goes_by r r' n ls (Ok (Some f)) q =
     ap (λ z. going z (n + 1) ls) e ∙ front_taken r.forms f (statements_of (after r.scope f) (n + 1) ls)
 
 -- a line without fault: the rest gives what the whole gave
-pub step_goes : (r r' : Reading) (n : ℕ) (line : List ℕ) (ls : List (List ℕ)) → Ok r' ≡ step r n line
+pub step_goes : (r r' : StatementsRead) (n : ℕ) (line : List ℕ) (ls : List (List ℕ)) → Ok r' ≡ step r n line
     → going r' (n + 1) ls ≡ going r n (line ∷ ls)
 step_goes r r' n line ls q = goes_by r r' n ls (verdict_on r.scope n line) (sym q)
 
 -- each fault ends the text
-stops_by : (r : Reading) (n : ℕ) (ls : List (List ℕ)) (a : Result (Option Form) FaultKind) (k : FaultKind) → step_by r a ≡ Err k
+stops_by : (r : StatementsRead) (n : ℕ) (ls : List (List ℕ)) (a : Result (Option Form) FaultKind) (k : FaultKind) → step_by r a ≡ Err k
     → Err (n, k) ≡ going_by r n ls a
 stops_by r n ls (Err j) k q = let e : k ≡ j = cc in ap (λ z. Err (n, z)) e
 stops_by r n ls (Ok o) k q = absurd cc
 
 -- a line at fault ends the text
-pub step_stops : (r : Reading) (n : ℕ) (line : List ℕ) (ls : List (List ℕ)) (k : FaultKind) → Err k ≡ step r n line
+pub step_stops : (r : StatementsRead) (n : ℕ) (line : List ℕ) (ls : List (List ℕ)) (k : FaultKind) → Err k ≡ step r n line
     → Err (n, k) ≡ going r n (line ∷ ls)
 step_stops r n line ls k q = stops_by r n ls (verdict_on r.scope n line) k (sym q)
 
 -- a line judged without fault is among the first thousand
-early_by : (s : Scope) (n : ℕ) (line : List ℕ) (a : Result (Option Form) FaultKind) → Answers s n line a → (r r' : Reading)
+early_by : (s : Scope) (n : ℕ) (line : List ℕ) (a : Result (Option Form) FaultKind) → Answers s n line a → (r r' : StatementsRead)
     → step_by r a ≡ Ok r' → n ≤ most_lines
 early_by s n line (Err k) h r r' q = absurd cc
 early_by s n line (Ok o) h r r' q = in_time h
 
 -- a line without fault is among the first thousand
-pub step_in_time : (r r' : Reading) (n : ℕ) (line : List ℕ) → Ok r' ≡ step r n line → n ≤ most_lines
+pub step_in_time : (r r' : StatementsRead) (n : ℕ) (line : List ℕ) → Ok r' ≡ step r n line → n ≤ most_lines
 step_in_time r r' n line q = early_by r.scope n line (verdict_on r.scope n line) (line_answers r.scope n line) r r' (sym q)
 
 -- a last statement comes after the others
@@ -87,7 +87,7 @@ after_push s [] f = refl
 after_push s (g ∷ fs) f = after_push (after s g) fs f
 
 -- each judgment without fault leaves what its statement does
-leads_by : (r r' : Reading) (a : Result (Option Form) FaultKind) → step_by r a ≡ Ok r' → IsLed r → IsLed r'
+leads_by : (r r' : StatementsRead) (a : Result (Option Form) FaultKind) → step_by r a ≡ Ok r' → IsLed r → IsLed r'
 leads_by r r' (Err k) q h = absurd cc
 leads_by r r' (Ok None) q h = let e : r ≡ r' = cc in subst IsLed e h
 leads_by r r' (Ok (Some f)) q h =
@@ -95,7 +95,7 @@ leads_by r r' (Ok (Some f)) q h =
     subst IsLed e (ap (λ z. after z f) h ∙ sym (after_push nothing_yet r.forms f))
 
 -- and leaves what its statement does
-pub step_leads : (r r' : Reading) (n : ℕ) (line : List ℕ) → Ok r' ≡ step r n line → IsLed r → IsLed r'
+pub step_leads : (r r' : StatementsRead) (n : ℕ) (line : List ℕ) → Ok r' ≡ step r n line → IsLed r → IsLed r'
 step_leads r r' n line q h = leads_by r r' (verdict_on r.scope n line) (sym q) h
 
 -- what is read is the text's statements

@@ -12,33 +12,33 @@ use Rattle.rank_text.specs.Checker.SeenLines.{scope_seen, forms_seen, arrays_see
 use Rattle.rank_text.specs.Checker.Verdict.{verdict_on, statements_of}
 
 -- what the statements so far leave, and these statements
-pub record Reading : Type 0 where
+pub record StatementsRead : Type 0 where
   pub scope : Scope
   pub forms : List Form
 
 -- nothing is read
-abbrev pub fresh : Reading
+abbrev pub fresh : StatementsRead
 fresh = record { scope = nothing_yet; forms = [] }
 
 -- what a reader of the code has read
-abbrev pub reader_seen : source_reader.Reader → Reading
+abbrev pub reader_seen : source_reader.Reader → StatementsRead
 reader_seen r = record { scope = scope_seen r.scope; forms = forms_seen r.forms.items }
 
 -- a statement more
-abbrev pub taken : Reading → Form → Reading
+abbrev pub taken : StatementsRead → Form → StatementsRead
 taken r f = record { scope = after r.scope f; forms = r.forms ++ f ∷ [] }
 
 -- a line more, with its statement if it has one
-abbrev pub with_line : Reading → Option Form → Reading
+abbrev pub with_line : StatementsRead → Option Form → StatementsRead
 with_line r None = r
 with_line r (Some f) = taken r f
 
 -- a line more, or its lowest fault
-abbrev pub step : Reading → ℕ → List ℕ → Result Reading FaultKind
+abbrev pub step : StatementsRead → ℕ → List ℕ → Result StatementsRead FaultKind
 step r n line = elim (verdict_on r.scope n line) [ Err k ↦ Err k | Ok o ↦ Ok (with_line r o) ]
 
 -- what a turn of the code answers, and the reader that it leaves
-abbrev pub stepped : Option FaultKind → Reading → Result Reading FaultKind
+abbrev pub stepped : Option FaultKind → StatementsRead → Result StatementsRead FaultKind
 stepped None r = Ok r
 stepped (Some k) r = Err k
 
@@ -48,16 +48,16 @@ with_front fs (Ok gs) = Ok (fs ++ gs)
 with_front fs (Err e) = Err e
 
 -- what the whole text gives, where these lines from number n on are left
-abbrev pub going : Reading → ℕ → List (List ℕ) → Result (List Form) (ℕ × FaultKind)
+abbrev pub going : StatementsRead → ℕ → List (List ℕ) → Result (List Form) (ℕ × FaultKind)
 going r n ls = with_front r.forms (statements_of r.scope n ls)
 
 -- what a text gives whose reading ends so
-abbrev pub ended : Option ProgramFault → Reading → Result (List Form) (ℕ × FaultKind)
+abbrev pub ended : Option ProgramFault → StatementsRead → Result (List Form) (ℕ × FaultKind)
 ended None r = Ok r.forms
 ended (Some f) r = Err (f.line, f.kind)
 
 -- the scope is what the statements leave
-abbrev pub IsLed : Reading → Type 0
+abbrev pub IsLed : StatementsRead → Type 0
 IsLed r = r.scope ≡ after_all nothing_yet r.forms
 
 -- the tables are what the statements declare

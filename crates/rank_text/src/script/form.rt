@@ -11,7 +11,7 @@ use crate::script::line::Order;
 /// What a line says, whatever its numbers are; `u32::MAX` stands for each that
 /// is greater.
 #[derive(Clone, Copy)]
-pub(crate) struct Form {
+pub(crate) struct ScriptForm {
     pub(crate) order: Order,
     pub(crate) rank: u32,
     pub(crate) clock: u32,
@@ -43,7 +43,7 @@ fn clock_of(line: &[u8]) -> Option<u32>
 }
 
 /// The form of a line, if it has one.
-pub(crate) fn form_of(line: &[u8]) -> Option<Form>
+pub(crate) fn form_of(line: &[u8]) -> Option<ScriptForm>
     ensures { result ≡ form_seen (form_of (words_of line.now)) }
 {
     let (order, rest) = next_word(line)?;
@@ -51,5 +51,5 @@ pub(crate) fn form_of(line: &[u8]) -> Option<Form>
     let order = order_of(order)?;
     let rank = decimal(rank)?;
     let clock = clock_of(rest)?;
-    Some(Form { order, rank, clock })
+    Some(ScriptForm { order, rank, clock })
 }

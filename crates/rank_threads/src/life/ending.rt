@@ -9,7 +9,7 @@ ghost use Rattle.rank_threads.specs.Stations.{IsLifeOf};
 use super::station::Station;
 use crate::leaving::AllAtRest;
 use crate::life::Life;
-use crate::stop::Stopped;
+use crate::stop::ToldToLeave;
 use audit::End;
 use rank_machine::Want;
 use rank_node::Phase;
@@ -28,7 +28,7 @@ pub enum Why<'s> {
     /// All ranks are at rest.
     AtRest(AllAtRest),
     /// All ranks were told to leave.
-    Told(Stopped<'s>),
+    Told(ToldToLeave<'s>),
 }
 
 /// How a life ended. It must be spent.

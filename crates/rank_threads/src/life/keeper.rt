@@ -15,7 +15,7 @@ use super::parcel::{AfterLife, Parcel};
 use super::station::Station;
 use crate::hold::Hold;
 use crate::shared::Shared;
-use crate::stop::{Stop, Stopped};
+use crate::stop::{StopToken, ToldToLeave};
 use audit::End;
 use rank_node::NodeFault;
 use std::snapshot::Snapshot;
@@ -85,7 +85,7 @@ fn give_up<'l>(station: Station<'l>) -> Station<'l>
 }
 
 /// All were told to leave, so the rank lives no more.
-pub fn leave_unfinished<'l>(station: Station<'l>, _: Stopped<'_>) -> Station<'l>
+pub fn leave_unfinished<'l>(station: Station<'l>, _: ToldToLeave<'_>) -> Station<'l>
     ensures told { IsToldToLeave station.entry result }
     ensures same { SameStation station.entry result }
 {
@@ -133,7 +133,7 @@ fn live_in_parcel<'l, W: Wait + Drop + Copy, H: Hold>(
 /// memory, and all were told to leave.
 pub fn refuse_parcel<'l, W: Wait + Drop + Copy>(
     parcel: Parcel<'l, W>,
-    stop: Stop<'_>,
+    stop: StopToken<'_>,
 ) -> Parcel<'l, W>
     requires { stop.why ≡ Memory }
     ensures fault { result.station.kit.tally ≡ record parcel.entry.station.kit.tally { fault = Some Memory } }

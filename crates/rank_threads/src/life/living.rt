@@ -16,7 +16,7 @@ use super::waiting::Patience;
 use crate::hold::Hold;
 use crate::life::Life;
 use crate::shared::Shared;
-use crate::stop::{Stop, Stopped};
+use crate::stop::{StopToken, ToldToLeave};
 use crate::turn::{After, TurnStart, begin, finish};
 use audit::End;
 use rank_language::Program;
@@ -142,7 +142,7 @@ pub fn begun<'p, 'l, W: Wait, H>(
 #[derive(Drop)]
 enum TurnBegun<'s> {
     // all were told to leave, so that no turn was made
-    Told(Stopped<'s>),
+    Told(ToldToLeave<'s>),
     Made(Result<TurnStart, NodeFault>),
 }
 
@@ -233,7 +233,7 @@ fn end_turn<'s, W: Wait, H: Hold>(
 }
 
 /// The rank has met refused memory, and all were told to leave.
-pub fn refuse_life<'l>(station: Station<'l>, stop: Stop<'_>) -> Station<'l>
+pub fn refuse_life<'l>(station: Station<'l>, stop: StopToken<'_>) -> Station<'l>
     requires { stop.why ≡ NodeFault.Memory }
     ensures fault { result.kit.tally ≡ record station.entry.kit.tally { fault = Some NodeFault.Memory } }
     ensures down { result.down ≡ station.entry.down }

@@ -15,7 +15,7 @@ use super::station::Station;
 use crate::hold::Hold;
 use crate::schedule::{Chooser, Schedule};
 use crate::shared::Shared;
-use crate::stop::{OutOfTurns, Stopped};
+use crate::stop::{OutOfTurns, ToldToLeave};
 use limits::Heap;
 use rank_language::Program;
 use std::mem::replace;
@@ -225,7 +225,7 @@ fn leave<'p, 'l, W: Wait, H>(
 }
 
 // The life of a rank that lives is over, as it was told to leave.
-fn ended<'p, 'l>(seat: Seat<'p, 'l>, stopped: Stopped<'_>) -> Seat<'p, 'l>
+fn ended<'p, 'l>(seat: Seat<'p, 'l>, stopped: ToldToLeave<'_>) -> Seat<'p, 'l>
     ensures kept { (text : List ℕ) → KeepsSeat text seat.entry result }
     ensures ended { is_living result ≡ false }
 {
@@ -254,7 +254,7 @@ fn after_life<'p, 'l, W: Wait, H>(
 }
 
 // A rank between two lives leaves, as it was told to.
-fn told<'p, 'l>(seat: Seat<'p, 'l>, stopped: Stopped<'_>) -> Seat<'p, 'l>
+fn told<'p, 'l>(seat: Seat<'p, 'l>, stopped: ToldToLeave<'_>) -> Seat<'p, 'l>
     requires idle { is_living seat ≡ false }
     requires followed { is_over seat ≡ false }
     ensures moved { (text : List ℕ) → MovesOn text seat.entry result }

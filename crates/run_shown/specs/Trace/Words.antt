@@ -8,7 +8,7 @@ use Rattle.std.specs.Ordering.{int_eq}
 use Rattle.rank_text.specs.declared.grammar.token.Reduction.TheVariants.{Sum, Max, Min}
 use Rattle.matching.specs.declared.packet.Context.{Context}
 use Rattle.matching.specs.declared.packet.Context.TheVariants.{PointToPoint, Collective}
-use Rattle.rank_machine.specs.Collectives.{Kind, barriers, broadcasts, folds, kind_number}
+use Rattle.rank_machine.specs.Collectives.{CollectiveKind, barriers, broadcasts, folds, kind_number}
 use Rattle.rank_machine.specs.Acts.{Message, Act, sends, takes, hits, misses, prints}
 
 -- the most items of a message that are shown
@@ -16,7 +16,7 @@ abbrev pub most_shown : ℕ
 most_shown = 8
 
 -- the word for a kind of collective
-abbrev pub kind_text : Kind → List ℕ
+abbrev pub kind_text : CollectiveKind → List ℕ
 kind_text barriers = codes "barrier"
 kind_text broadcasts = codes "bcast"
 kind_text (folds Sum) = codes "reduce sum"
@@ -24,11 +24,11 @@ kind_text (folds Max) = codes "reduce max"
 kind_text (folds Min) = codes "reduce min"
 
 -- all kinds of collectives
-abbrev pub all_kinds : List Kind
+abbrev pub all_kinds : List CollectiveKind
 all_kinds = barriers ∷ broadcasts ∷ folds Sum ∷ folds Max ∷ folds Min ∷ []
 
 -- the word for the one of these kinds that packets name by this number
-abbrev pub named_among : List Kind → ℤ → List ℕ
+abbrev pub named_among : List CollectiveKind → ℤ → List ℕ
 named_among [] number = codes "collective"
 named_among (kind ∷ kinds) number = if int_eq number (pos (kind_number kind)) then kind_text kind else named_among kinds number
 

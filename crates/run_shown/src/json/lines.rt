@@ -7,15 +7,15 @@ use std::alloc::AllocError;
 
 /// A text, to which objects are added.
 #[derive(Drop)]
-pub struct Lines {
+pub struct JsonLines {
     alloc: Heap,
     text: TextWriter,
 }
 
-impl Lines {
+impl JsonLines {
     /// A text without lines.
-    pub fn new(alloc: Heap) -> Lines {
-        Lines {
+    pub fn new(alloc: Heap) -> JsonLines {
+        JsonLines {
             alloc,
             text: TextWriter::new(alloc),
         }
@@ -34,7 +34,7 @@ impl Lines {
 
     /// The whole text.
     pub fn done(self) -> Result<String<Heap>, AllocError> {
-        let Lines { text, .. } = self;
+        let JsonLines { text, .. } = self;
         text.done()
     }
 }

@@ -10,7 +10,7 @@ ghost use Rattle.run_shown.specs.Trace.Words.{act_text, hit_text, probe_text, re
 
 use crate::trace::columns::{digits, put_head, put_right};
 use crate::trace::given::Told;
-use crate::trace::message::{Message, put_collective, put_content, put_tag};
+use crate::trace::message::{SentMessage, put_collective, put_content, put_tag};
 use crate::trace::place::Place;
 use crash_free::{Act, Passed};
 use limits::Heap;
@@ -65,7 +65,7 @@ fn put_line(
     lines: &[usize],
     passed: &Passed,
     place: Place,
-    message: Option<Message<'_>>,
+    message: Option<SentMessage<'_>>,
     width: usize,
 ) -> Result<(), AllocError>
     ensures { OnOk result (string_bytes to.new ≡ string_bytes to.old
@@ -98,7 +98,7 @@ fn put_act(
     to: &mut String<Heap>,
     passed: &Passed,
     place: Place,
-    message: Option<Message<'_>>,
+    message: Option<SentMessage<'_>>,
 ) -> Result<(), AllocError>
     ensures { OnOk result (string_bytes to.new ≡ string_bytes to.old
         ++ act_text place.clock place.tries passed.now.act (maybe_seen message.entry)) }
@@ -112,7 +112,7 @@ fn put_act(
         } => put_send(
             to,
             *dest,
-            Message {
+            SentMessage {
                 clock: place.clock,
                 context: *context,
                 tag: *tag,
@@ -126,7 +126,7 @@ fn put_act(
     }
 }
 
-fn put_send(to: &mut String<Heap>, dest: u8, message: Message<'_>) -> Result<(), AllocError>
+fn put_send(to: &mut String<Heap>, dest: u8, message: SentMessage<'_>) -> Result<(), AllocError>
     ensures { OnOk result (string_bytes to.new ≡ string_bytes to.old ++ send_text dest (message_seen message.entry)) }
 {
     put_collective(to, message)?;
@@ -137,7 +137,7 @@ fn put_send(to: &mut String<Heap>, dest: u8, message: Message<'_>) -> Result<(),
 fn put_reception(
     to: &mut String<Heap>,
     source: u8,
-    message: Option<Message<'_>>,
+    message: Option<SentMessage<'_>>,
 ) -> Result<(), AllocError>
     ensures { OnOk result (string_bytes to.new ≡ string_bytes to.old ++ reception_text source (maybe_seen message.entry)) }
 {
@@ -157,7 +157,7 @@ fn put_hit(
     to: &mut String<Heap>,
     source: u8,
     tries: bool,
-    message: Option<Message<'_>>,
+    message: Option<SentMessage<'_>>,
 ) -> Result<(), AllocError>
     ensures { OnOk result (string_bytes to.new ≡ string_bytes to.old
         ++ (probe_text tries ++ codes "from " ++ decimal source ++ hit_text (maybe_seen message.entry))) }
@@ -172,7 +172,7 @@ fn put_hit(
 
 /// The message that an act took or hit.
 #[tactic(auto, using(crate::proofs::TraceLaws::DeliveryLemmas::told_none, crate::proofs::TraceLaws::DeliveryLemmas::told_some))]
-pub fn sent<'a>(told: Told<'a, '_>, index: usize) -> Option<Message<'a>>
+pub fn sent<'a>(told: Told<'a, '_>, index: usize) -> Option<SentMessage<'a>>
     ensures { AreClocked told.entry.acts.now told.entry.places.now → AreDelivered told.entry.acts.now told.entry.deliveries.now
         → (p : Passed) → slice_get told.entry.acts.now index ≡ Some p
         → maybe_seen result ≡ as_told (delivered (run_before told.entry.acts.now index) p) }
@@ -182,14 +182,14 @@ pub fn sent<'a>(told: Told<'a, '_>, index: usize) -> Option<Message<'a>>
 }
 
 /// The message that the act of this index sent.
-pub fn message_at<'a>(acts: &'a [Passed], places: &[Place], index: usize) -> Option<Message<'a>>
+pub fn message_at<'a>(acts: &'a [Passed], places: &[Place], index: usize) -> Option<SentMessage<'a>>
     ensures { maybe_seen result ≡ made_by (slice_get acts.now index) (slice_get places.now index) }
 {
     message_of(acts.get(index)?, *places.get(index)?)
 }
 
 // The message of a send that was made at this place.
-fn message_of(passed: &Passed, place: Place) -> Option<Message<'_>>
+fn message_of(passed: &Passed, place: Place) -> Option<SentMessage<'_>>
     ensures { maybe_seen result ≡ sent_by passed.now.act place.clock }
 {
     match &passed.act {
@@ -198,7 +198,7 @@ fn message_of(passed: &Passed, place: Place) -> Option<Message<'_>>
             tag,
             items,
             ..
-        } => Some(Message {
+        } => Some(SentMessage {
             clock: place.clock,
             context: *context,
             tag: *tag,

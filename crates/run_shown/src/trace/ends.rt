@@ -3,9 +3,9 @@
 use crate::trace::acts::message_at;
 use crate::trace::given::Told;
 use crate::trace::left::unreceived;
-use crate::trace::message::{Message, write_mark};
+use crate::trace::message::{SentMessage, write_mark};
 use crate::trace::place::Place;
-use crate::trace::why::Why;
+use crate::trace::why::WhyUnfinished;
 use audit::End;
 use crash_free::{Passed, Sim};
 use limits::Heap;
@@ -100,7 +100,7 @@ pub fn waits_for(run: &Sim<'_>, rank: u8) -> Option<Selector> {
 }
 
 // Whether the selector names such a message of this source.
-fn names(selector: Selector, source: u8, message: Message<'_>) -> bool {
+fn names(selector: Selector, source: u8, message: SentMessage<'_>) -> bool {
     selector.context == message.context
         && match selector.source {
             Some(wanted) => wanted == source,
@@ -176,7 +176,7 @@ pub fn put_sent(to: &mut TextWriter, acts: &[Passed], places: &[Place], index: u
 }
 
 /// Why a rank is unfinished, and what helps.
-pub fn why_unfinished(whys: &[Option<Why>], rank: u8) -> &'static str {
+pub fn why_unfinished(whys: &[Option<WhyUnfinished>], rank: u8) -> &'static str {
     match whys.get(usize::from(rank)) {
         Some(Some(why)) => why.words(),
         Some(None) | None => "why isn't known",

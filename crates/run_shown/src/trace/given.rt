@@ -3,7 +3,7 @@
 use crate::trace::deliveries::Delivery;
 use crate::trace::fates::Fated;
 use crate::trace::place::Place;
-use crate::trace::why::Why;
+use crate::trace::why::WhyUnfinished;
 use audit::{End, Outcome};
 use crash_free::{Passed, Sim};
 use rank_text::script::ScriptLine;
@@ -27,7 +27,7 @@ pub struct Given<'a> {
     pub images_every: Option<NonZeroU32>,
     pub outcome: &'a Outcome,
     /// Why each rank is unfinished, where that is known.
-    pub whys: &'a [Option<Why>],
+    pub whys: &'a [Option<WhyUnfinished>],
     /// How often ranks crashed.
     pub crashes: u64,
     /// How often they called the event logger.
@@ -44,7 +44,7 @@ pub struct Told<'a, 'p> {
     pub lines: &'a [usize],
     pub ends: &'a [End],
     /// Why each rank is unfinished, where that is known.
-    pub whys: &'a [Option<Why>],
+    pub whys: &'a [Option<WhyUnfinished>],
     pub run: &'a Sim<'p>,
     pub acts: &'a [Passed],
     pub places: &'a [Place],

@@ -4,7 +4,7 @@ mod acts;
 mod ends;
 mod left;
 
-use crate::json::Lines;
+use crate::json::JsonLines;
 use crate::trace::given::Told;
 use acts::put_acts;
 use ends::{put_circles, put_ends};
@@ -19,7 +19,7 @@ pub fn json_of(
     crashes: u64,
     calls: u64,
 ) -> Result<String<Heap>, AllocError> {
-    let mut lines = Lines::new(alloc);
+    let mut lines = JsonLines::new(alloc);
     put_acts(alloc, &mut lines, told);
     put_ends(alloc, &mut lines, told);
     put_circles(alloc, &mut lines, told.run, told.ends);

@@ -15,7 +15,7 @@ const SHOWN: usize = 8;
 
 /// A message as its send has it.
 #[derive(Clone, Copy)]
-pub struct Message<'a> {
+pub struct SentMessage<'a> {
     /// The clock of the send, as it is told.
     pub clock: u32,
     pub context: Context,
@@ -25,7 +25,7 @@ pub struct Message<'a> {
 
 /// Writes the collective that the message is of, as `reduce sum 1: `; nothing for
 /// a message between two ranks.
-pub fn put_collective(to: &mut String<Heap>, message: Message<'_>) -> Result<(), AllocError>
+pub fn put_collective(to: &mut String<Heap>, message: SentMessage<'_>) -> Result<(), AllocError>
     ensures { OnOk result (string_bytes to.new ≡ string_bytes to.old ++ lead_text message.entry.context message.entry.items.now) }
 {
     match message.context {
@@ -79,7 +79,7 @@ pub fn call_number(items: &[i64]) -> Option<i64>
 }
 
 /// The items of a message, and of a collective's packet those of the call alone.
-pub fn call_items(message: Message<'_>) -> &[i64]
+pub fn call_items(message: SentMessage<'_>) -> &[i64]
     ensures { result.now ≡ given_items message.entry.context message.entry.items.now }
 {
     match message.context {
@@ -90,7 +90,7 @@ pub fn call_items(message: Message<'_>) -> &[i64]
 
 /// Writes what stands behind the other rank's number: `, tag 7: 41`, and of a
 /// collective the items of the call alone.
-pub fn put_content(to: &mut String<Heap>, message: Message<'_>) -> Result<(), AllocError>
+pub fn put_content(to: &mut String<Heap>, message: SentMessage<'_>) -> Result<(), AllocError>
     ensures { OnOk result (string_bytes to.new ≡ string_bytes to.old ++ content_text (message_seen message.entry)) }
 {
     put_tag(to, message)?;
@@ -98,7 +98,7 @@ pub fn put_content(to: &mut String<Heap>, message: Message<'_>) -> Result<(), Al
 }
 
 /// Writes the tag, as `, tag 7`; nothing of a collective.
-pub fn put_tag(to: &mut String<Heap>, message: Message<'_>) -> Result<(), AllocError>
+pub fn put_tag(to: &mut String<Heap>, message: SentMessage<'_>) -> Result<(), AllocError>
     ensures { OnOk result (string_bytes to.new ≡ string_bytes to.old ++ tag_text message.entry.context message.entry.tag) }
 {
     match message.context {
@@ -111,7 +111,7 @@ pub fn put_tag(to: &mut String<Heap>, message: Message<'_>) -> Result<(), AllocE
 }
 
 /// Writes by what to know a message: its tag, or the collective that it is of.
-pub fn put_mark(to: &mut String<Heap>, message: Message<'_>) -> Result<(), AllocError>
+pub fn put_mark(to: &mut String<Heap>, message: SentMessage<'_>) -> Result<(), AllocError>
     ensures { OnOk result (string_bytes to.new ≡ string_bytes to.old ++ mark_text message.entry.context message.entry.tag message.entry.items.now) }
 {
     match message.context {
@@ -124,7 +124,7 @@ pub fn put_mark(to: &mut String<Heap>, message: Message<'_>) -> Result<(), Alloc
 }
 
 /// The same behind what was written so far.
-pub fn write_mark(to: &mut TextWriter, message: Message<'_>) {
+pub fn write_mark(to: &mut TextWriter, message: SentMessage<'_>) {
     if to.room.is_ok() {
         to.room = put_mark(&mut to.text, message);
     }

@@ -2,7 +2,7 @@
 
 /// Why a rank is unfinished.
 #[derive(Clone, Copy)]
-pub enum Why {
+pub enum WhyUnfinished {
     /// It made as many steps as it may.
     Steps,
     /// It made as many acts as a clock counts.
@@ -13,16 +13,17 @@ pub enum Why {
     Replay,
 }
 
-impl Why {
+impl WhyUnfinished {
     /// Why, and what helps, in words.
     pub fn words(self) -> &'static str {
         match self {
-            Why::Steps => {
+            WhyUnfinished::Steps => {
                 "its steps are spent: allow more (--steps), or look for a loop without an end"
             }
-            Why::Clock => "its 268435455 acts are spent: let it do less",
-            Why::Events => "its 4096 events are spent: receive and probe less, as by whole arrays",
-            Why::Replay => {
+            WhyUnfinished::Clock => "its 268435455 acts are spent: let it do less",
+            WhyUnfinished::Events =>
+                "its 4096 events are spent: receive and probe less, as by whole arrays",
+            WhyUnfinished::Replay => {
                 "it was still being replayed when all ranks had come to rest: look at the ends of the others"
             }
         }

@@ -3,7 +3,7 @@ ghost use Rattle.std.specs.Prelude.{◌<◌, ◌≤◌, IfSome};
 ghost use Rattle.limits.specs.Limits.{most_ranks};
 ghost use Rattle.bare_world.specs.World.{size};
 
-use crate::json::{Lines, List, Object};
+use crate::json::{JsonLines, List, Object};
 use crate::world::acts::{Outlook, act_object, outlook_of};
 use crate::world::determinants::determinant_object;
 use crate::world::frames::frame_object;
@@ -20,7 +20,7 @@ use world_model::{Reply, World, WorldEvent};
 
 /// The texts of a program and of events, as they are in their files.
 #[derive(Clone, Copy)]
-pub struct Texts<'a> {
+pub struct WorldTexts<'a> {
     pub program: &'a [u8],
     pub events: &'a [u8],
 }
@@ -34,7 +34,7 @@ pub fn world_json(
     program: &Program,
     ranks: u8,
     events: &[WorldEvent],
-    texts: Texts<'_>,
+    texts: WorldTexts<'_>,
 ) -> Result<String<Heap>, AllocError>
     requires { ranks ≤ most_ranks }
 {
@@ -55,10 +55,10 @@ fn played(
     world: &mut World<'_>,
     known: Known<'_, '_>,
     events: &[WorldEvent],
-    texts: Texts<'_>,
+    texts: WorldTexts<'_>,
 ) -> Result<String<Heap>, AllocError> {
     let lines = statement_lines(alloc, texts.events)?;
-    let mut to = Lines::new(alloc);
+    let mut to = JsonLines::new(alloc);
     put_texts(alloc, &mut to, world.ranks(), texts.program, texts.events);
     put_first(alloc, &mut to, known, world);
     for index in 0..events.len() {

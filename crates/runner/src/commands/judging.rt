@@ -21,7 +21,7 @@ use std::alloc::AllocError;
 
 // The texts of the job's files.
 #[derive(Drop)]
-struct Texts {
+struct JudgeTexts {
     program: Vec<u8>,
     outcome: Vec<u8>,
 }
@@ -61,7 +61,7 @@ fn judged_by<'a, F: Files>(
         said.out.items said.status) }
     ensures refused { IfErr result (UnlessMemory (IsOutcomeRefusal (F.holds files.old) job.entry.ranks job.entry.outcome)) }
 {
-    let texts = Texts {
+    let texts = JudgeTexts {
         program: text,
         outcome: text_in(job.outcome, files)?,
     };
@@ -79,7 +79,7 @@ fn said_of(
     alloc: Heap,
     job: JudgeJob<'_>,
     lined: &LinedProgram,
-    texts: &Texts,
+    texts: &JudgeTexts,
     read: &OutcomeText,
 ) -> Result<Said, AllocError>
     requires { IsLinedOf texts.now.program.items lined.now.program lined.now.lines.items }
@@ -96,7 +96,7 @@ fn verdict_on(
     alloc: Heap,
     job: JudgeJob<'_>,
     lined: &LinedProgram,
-    texts: &Texts,
+    texts: &JudgeTexts,
     read: &OutcomeText,
     outcome: &Outcome,
 ) -> Result<Said, AllocError>
@@ -131,7 +131,7 @@ fn yes_text(
     alloc: Heap,
     job: JudgeJob<'_>,
     lined: &LinedProgram,
-    texts: &Texts,
+    texts: &JudgeTexts,
     outcome: &Outcome,
 ) -> Result<String<Heap>, AllocError>
     requires { IsLinedOf texts.now.program.items lined.now.program lined.now.lines.items }
@@ -151,7 +151,7 @@ fn run_text(
     alloc: Heap,
     job: JudgeJob<'_>,
     lined: &LinedProgram,
-    texts: &Texts,
+    texts: &JudgeTexts,
     outcome: &Outcome,
 ) -> Result<String<Heap>, AllocError>
     requires { IsLinedOf texts.now.program.items lined.now.program lined.now.lines.items }

@@ -24,7 +24,7 @@ use limits::Heap;
 use rank_language::{LinedProgram, Program};
 use rank_threads::{Cause, Certified, Report};
 use run_events::{PlayFault, play_script_text, play_text};
-use run_shown::trace::{Given, Why, trace_json, trace_text};
+use run_shown::trace::{Given, WhyUnfinished, trace_json, trace_text};
 use std::alloc::AllocError;
 use std::sync::Wait;
 use std::thread::Threads;
@@ -127,7 +127,10 @@ fn told_of<'a>(
 }
 
 // Why each rank is unfinished, in the words of a trace.
-fn whys_of(alloc: Heap, causes: &[Option<Cause>]) -> Result<Vec<Option<Why>, Heap>, AllocError> {
+fn whys_of(
+    alloc: Heap,
+    causes: &[Option<Cause>],
+) -> Result<Vec<Option<WhyUnfinished>, Heap>, AllocError> {
     let mut whys = Vec::new(alloc);
     for cause in causes {
         whys.push(why_of(*cause))?;
@@ -135,12 +138,12 @@ fn whys_of(alloc: Heap, causes: &[Option<Cause>]) -> Result<Vec<Option<Why>, Hea
     Ok(whys)
 }
 
-fn why_of(cause: Option<Cause>) -> Option<Why> {
+fn why_of(cause: Option<Cause>) -> Option<WhyUnfinished> {
     match cause {
-        Some(Cause::Steps(_)) => Some(Why::Steps),
-        Some(Cause::Clock(_)) => Some(Why::Clock),
-        Some(Cause::Events) => Some(Why::Events),
-        Some(Cause::Replay(_)) => Some(Why::Replay),
+        Some(Cause::Steps(_)) => Some(WhyUnfinished::Steps),
+        Some(Cause::Clock(_)) => Some(WhyUnfinished::Clock),
+        Some(Cause::Events) => Some(WhyUnfinished::Events),
+        Some(Cause::Replay(_)) => Some(WhyUnfinished::Replay),
         None => None,
     }
 }

@@ -5,9 +5,9 @@ ghost use Rattle.runner.specs.Waits.{AreWaits, IsEmpty, WaitWith, is_for_another
 ghost use Rattle.runner.specs.Waits.{some_wait, wait_for_each_other, waits_in_send, waits_somewhere};
 
 use crate::commands::exploring::limits_of;
-use crate::explored::{Wait, WaitingRanks};
+use crate::explored::{WaitingRank, WaitingRanks};
 use command_line::ExploreJob;
-use crash_free::{Leftover, Mark, Sim};
+use crash_free::{Leftover, MessageMark, Sim};
 use explore::{Explored, FoundOutcome, Leftovers, run_of};
 use limits::Heap;
 use rank_language::LinedProgram;
@@ -43,12 +43,12 @@ fn are_sent(messages: &[Leftover]) -> bool
     messages.iter().any(|message| is_tag(message.mark))
 }
 
-fn is_tag(mark: Mark) -> bool
+fn is_tag(mark: MessageMark) -> bool
     ensures { result ≡ is_tag mark }
 {
     match mark {
-        Mark::Tag(_) => true,
-        Mark::Call { .. } => false,
+        MessageMark::Tag(_) => true,
+        MessageMark::Call { .. } => false,
     }
 }
 
@@ -80,7 +80,7 @@ fn waits_after(alloc: Heap, run: &Sim<'_>, lines: &[usize]) -> Result<WaitingRan
     for rank in 0..run.ranks() {
         if waits_in_send(left.as_slice(), rank) {
             let line = line_of_rank(run, rank, lines);
-            ranks.push(Wait { rank, line })?;
+            ranks.push(WaitingRank { rank, line })?;
         }
     }
     Ok(WaitingRanks {

@@ -11,7 +11,7 @@ use crate::files::Files;
 use command_line::WorldJob;
 use limits::Heap;
 use rank_language::Program;
-use run_shown::world::{Texts, world_json};
+use run_shown::world::{WorldTexts, world_json};
 use world_model::events_text::parse_events;
 
 /// What each event changes in the job's world, an object a line. The program is
@@ -50,7 +50,7 @@ fn json_of<'a, F: Files>(
 {
     let events = text_in(job.events, files)?;
     let parsed = parse_events(alloc, events.as_slice())?;
-    let texts = Texts {
+    let texts = WorldTexts {
         program: text,
         events: events.as_slice(),
     };

@@ -11,9 +11,9 @@ ghost use Rattle.runner.specs.SearchObject.{rank_object, rank_objects, value, wi
 ghost use Rattle.runner.specs.SearchObject.{is_safe_if_known, safety_members, wait_object, waits_objects};
 
 use crate::explored::lined::{LinedLeftover, LinedLeftovers, LinedOutcome, left_at};
-use crate::explored::safety::{Safety, Wait};
+use crate::explored::safety::{Safety, WaitingRank};
 use audit::End;
-use crash_free::{Choice, Mark};
+use crash_free::{Choice, MessageMark};
 use explore::{Explored, FoundOutcome, Noted, Race, RankEnd};
 use limits::Heap;
 use run_shown::trace::kind_name;
@@ -109,7 +109,7 @@ fn waits_of(alloc: Heap, safety: &Safety) -> Result<Vec<Value, Heap>, AllocError
 }
 
 // Each of these ranks, with its line.
-fn wait_values(alloc: Heap, ranks: &[Wait]) -> Result<Vec<Value, Heap>, AllocError>
+fn wait_values(alloc: Heap, ranks: &[WaitingRank]) -> Result<Vec<Value, Heap>, AllocError>
     ensures { IfOk result (λ list. map view list.items ≡ map wait_object ranks.now) }
 {
     let mut list = Vec::new(alloc);
@@ -119,7 +119,7 @@ fn wait_values(alloc: Heap, ranks: &[Wait]) -> Result<Vec<Value, Heap>, AllocErr
     Ok(list)
 }
 
-fn wait_value(alloc: Heap, wait: Wait) -> Result<Value, AllocError>
+fn wait_value(alloc: Heap, wait: WaitingRank) -> Result<Value, AllocError>
     ensures { IfOk result (λ v. view v ≡ wait_object wait) }
 {
     let mut one = Map::new(alloc);
@@ -253,12 +253,16 @@ fn message_value(alloc: Heap, one: LinedLeftover) -> Result<Value, AllocError>
 }
 
 // By what to know a message.
-fn put_known(alloc: Heap, to: &mut Map<String<Heap>, Value>, mark: Mark) -> Result<(), AllocError>
+fn put_known(
+    alloc: Heap,
+    to: &mut Map<String<Heap>, Value>,
+    mark: MessageMark,
+) -> Result<(), AllocError>
     ensures { OnOk result (members_view to.new.entries ≡ with_members (known_members mark) (members_view to.old.entries)) }
 {
     match mark {
-        Mark::Tag(tag) => put(to, alloc, "tag", Value::from(u64::from(tag))),
-        Mark::Call { kind, number } => {
+        MessageMark::Tag(tag) => put(to, alloc, "tag", Value::from(u64::from(tag))),
+        MessageMark::Call { kind, number } => {
             put_text(alloc, to, "collective", kind_name(kind))?;
             put_ordinal(alloc, to, number)
         }

@@ -5,7 +5,7 @@ ghost use Rattle.runner.specs.LeftText.{are_alike, begin_alike, each_text, left_
 ghost use Rattle.runner.specs.LeftText.{known_words, line_words, mark_words, number_words, same_mark, some_text};
 
 use crate::explored::lined::{LinedLeftover, LinedLeftovers, LinedOutcome};
-use crash_free::Mark;
+use crash_free::MessageMark;
 use limits::Heap;
 use run_shown::trace::kind_name;
 use std::alloc::AllocError;
@@ -123,20 +123,20 @@ fn are_alike(one: LinedLeftover, other: LinedLeftover) -> bool
         && one.line == other.line
 }
 
-fn is_same_mark(mark: Mark, other: Mark) -> bool
+fn is_same_mark(mark: MessageMark, other: MessageMark) -> bool
     ensures { result ≡ same_mark mark other }
 {
     match mark {
-        Mark::Tag(tag) => match other {
-            Mark::Tag(same) => tag == same,
-            Mark::Call { .. } => false,
+        MessageMark::Tag(tag) => match other {
+            MessageMark::Tag(same) => tag == same,
+            MessageMark::Call { .. } => false,
         },
-        Mark::Call { kind, number } => match other {
-            Mark::Call {
+        MessageMark::Call { kind, number } => match other {
+            MessageMark::Call {
                 kind: of,
                 number: among,
             } => kind == of && number == among,
-            Mark::Tag(_) => false,
+            MessageMark::Tag(_) => false,
         },
     }
 }
@@ -184,12 +184,12 @@ fn print_number(text: &mut String<Heap>, count: usize) -> Result<(), AllocError>
     }
 }
 
-fn print_mark(text: &mut String<Heap>, mark: Mark) -> Result<(), AllocError>
+fn print_mark(text: &mut String<Heap>, mark: MessageMark) -> Result<(), AllocError>
     ensures { OnOk result (string_bytes text.new ≡ string_bytes text.old ++ mark_words mark) }
 {
     match mark {
-        Mark::Tag(tag) => write!(text, ", tag {tag}"),
-        Mark::Call { kind, number } => {
+        MessageMark::Tag(tag) => write!(text, ", tag {tag}"),
+        MessageMark::Call { kind, number } => {
             let name = kind_name(kind);
             write!(text, ", {name}")?;
             print_ordinal(text, number)

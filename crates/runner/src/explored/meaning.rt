@@ -178,17 +178,17 @@ fn print_run_limit(text: &mut String<Heap>, found: &Explored, runs: u32) -> Resu
 
 /// How a rank ends that doesn't halt.
 #[derive(Clone, Copy, PartialEq, Eq)]
-enum Ending {
+enum NoHalt {
     Stalls,
     Faults,
 }
 
-fn is_of(ending: Ending, end: End) -> bool
+fn is_of(ending: NoHalt, end: End) -> bool
     ensures { result ≡ is_of ending end }
 {
     match end {
-        End::Stalled => ending == Ending::Stalls,
-        End::Faulted(_) => ending == Ending::Faults,
+        End::Stalled => ending == NoHalt::Stalls,
+        End::Faulted(_) => ending == NoHalt::Faults,
         End::Halted | End::Unfinished => false,
     }
 }
@@ -213,14 +213,14 @@ fn print_stalled(
     number: usize,
     ranks: &[RankEnd],
 ) -> Result<(), AllocError>
-    ensures { OnOk result (string_bytes text.new ≡ string_bytes text.old ++ stalls_text number (ranks_of Ending.Stalls 0 ranks.now)) }
+    ensures { OnOk result (string_bytes text.new ≡ string_bytes text.old ++ stalls_text number (ranks_of NoHalt.Stalls 0 ranks.now)) }
 {
-    let count = count_of(ranks, Ending::Stalls);
+    let count = count_of(ranks, NoHalt::Stalls);
     if count == 0 {
         return Ok(());
     }
     write!(text, "# outcome {number} stalls: ")?;
-    print_ranks(text, ranks, Ending::Stalls, count)?;
+    print_ranks(text, ranks, NoHalt::Stalls, count)?;
     if count == 1 {
         text.push_str(" waits for a message that doesn't come\n")
     } else {
@@ -233,9 +233,9 @@ fn print_faulted(
     number: usize,
     ranks: &[RankEnd],
 ) -> Result<(), AllocError>
-    ensures { OnOk result (string_bytes text.new ≡ string_bytes text.old ++ faults_text number (ranks_of Ending.Faults 0 ranks.now)) }
+    ensures { OnOk result (string_bytes text.new ≡ string_bytes text.old ++ faults_text number (ranks_of NoHalt.Faults 0 ranks.now)) }
 {
-    let count = count_of(ranks, Ending::Faults);
+    let count = count_of(ranks, NoHalt::Faults);
     if count == 0 {
         return Ok(());
     }
@@ -248,11 +248,11 @@ fn print_fault_line(
     ranks: &[RankEnd],
     count: usize,
 ) -> Result<(), AllocError>
-    requires { count ≡ length (ranks_of Ending.Faults 0 ranks.now) }
-    ensures { OnOk result (string_bytes text.new ≡ string_bytes text.old ++ fault_line number (ranks_of Ending.Faults 0 ranks.now)) }
+    requires { count ≡ length (ranks_of NoHalt.Faults 0 ranks.now) }
+    ensures { OnOk result (string_bytes text.new ≡ string_bytes text.old ++ fault_line number (ranks_of NoHalt.Faults 0 ranks.now)) }
 {
     print_fault_words(text, number)?;
-    print_ranks_line(text, ranks, Ending::Faults, count)
+    print_ranks_line(text, ranks, NoHalt::Faults, count)
 }
 
 #[tactic(auto, unfolding(crate::specs::Meanings::fault_words))]
@@ -265,7 +265,7 @@ fn print_fault_words(text: &mut String<Heap>, number: usize) -> Result<(), Alloc
 fn print_ranks_line(
     text: &mut String<Heap>,
     ranks: &[RankEnd],
-    ending: Ending,
+    ending: NoHalt,
     count: usize,
 ) -> Result<(), AllocError>
     requires { count ≡ length (ranks_of ending 0 ranks.now) }
@@ -275,7 +275,7 @@ fn print_ranks_line(
     text.push_str("\n")
 }
 
-fn count_of(ranks: &[RankEnd], ending: Ending) -> usize
+fn count_of(ranks: &[RankEnd], ending: NoHalt) -> usize
     ensures { result ≡ length (ranks_of ending 0 ranks.now) }
 {
     let mut count = 0usize;
@@ -295,7 +295,7 @@ fn count_of(ranks: &[RankEnd], ending: Ending) -> usize
 fn print_ranks(
     text: &mut String<Heap>,
     ranks: &[RankEnd],
-    ending: Ending,
+    ending: NoHalt,
     count: usize,
 ) -> Result<(), AllocError>
     requires { count ≡ length (ranks_of ending 0 ranks.now) }
@@ -308,7 +308,7 @@ fn print_ranks(
 fn print_enumeration(
     text: &mut String<Heap>,
     ranks: &[RankEnd],
-    ending: Ending,
+    ending: NoHalt,
     count: usize,
 ) -> Result<(), AllocError>
     requires { count ≡ length (ranks_of ending 0 ranks.now) }

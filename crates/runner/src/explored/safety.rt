@@ -9,7 +9,7 @@ use std::alloc::AllocError;
 
 /// A rank that waits in its send, if no message is buffered.
 #[derive(Clone, Copy)]
-pub struct Wait {
+pub struct WaitingRank {
     pub rank: u8,
     /// The line at which it waits, if that is known.
     pub line: Option<usize>,
@@ -18,7 +18,7 @@ pub struct Wait {
 /// The ranks that wait so after a run.
 #[derive(Drop)]
 pub struct WaitingRanks {
-    pub ranks: Vec<Wait, Heap>,
+    pub ranks: Vec<WaitingRank, Heap>,
     /// Whether each waits for another one of them.
     pub each_other: bool,
 }
@@ -135,7 +135,7 @@ fn print_waits_at(
 }
 
 // Which ranks wait.
-fn waiting_ranks(alloc: Heap, waits: &[Wait]) -> Result<Vec<usize, Heap>, AllocError>
+fn waiting_ranks(alloc: Heap, waits: &[WaitingRank]) -> Result<Vec<usize, Heap>, AllocError>
     ensures { IfOk result (λ ranks. ranks.items ≡ waiting_ranks waits.now) }
 {
     waits
@@ -145,7 +145,7 @@ fn waiting_ranks(alloc: Heap, waits: &[Wait]) -> Result<Vec<usize, Heap>, AllocE
 }
 
 // The lines at which they wait.
-fn waiting_lines(alloc: Heap, waits: &[Wait]) -> Result<Vec<usize, Heap>, AllocError>
+fn waiting_lines(alloc: Heap, waits: &[WaitingRank]) -> Result<Vec<usize, Heap>, AllocError>
     ensures { IfOk result (λ lines. lines.items ≡ waiting_lines waits.now) }
 {
     waits.iter().filter_map(|wait| wait.line).collect(alloc)

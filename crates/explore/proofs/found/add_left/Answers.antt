@@ -1,5 +1,5 @@
 use Rattle.std.proofs.Common.{subst}
-use Rattle.explore.specs.Explored.{OutcomeValue}
+use Rattle.explore.specs.Explored.{FoundOutcomeValue}
 use Rattle.explore.specs.Outcomes.{IsAmong}
 use Rattle.explore.proofs.Grouping.{added_there, had_there, one_there}
 use Rattle.explore.proofs.found.add_left.Goals as goal
@@ -14,7 +14,7 @@ returns-clause-ok c =
     added_there c.add_left.result c.args.place c.args.left.items c.args.outcomes.now.items c.index_mut-outcome.result.now c.add_left.new.self _ c.requires
     c.index_mut-outcome.ensures.value
     (λ a. (rw c.deref.ensures.value at c.has_left.ensures.no c.if-has_left.false)
-    (subst (λ (z : OutcomeValue). IsAmong z.left c.args.left.items)
+    (subst (λ (z : FoundOutcomeValue). IsAmong z.left c.args.left.items)
     (one_there c.args.outcomes.now.items c.args.place c.index_mut-outcome.result.now _ c.index-outcome.result.now _ c.requires
     c.index_mut-outcome.ensures.value c.index-outcome.ensures) a))
     c.add_left.ensures.ok

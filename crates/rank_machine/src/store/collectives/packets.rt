@@ -12,7 +12,7 @@ ghost use Rattle.rank_machine.specs.Wants.{packet_items};
 ghost use Rattle.rank_machine.specs.Acts.{kept, fitting, items_taken};
 ghost use Rattle.rank_machine.specs.Machine.{HasStage};
 
-use crate::call::{Call, Kind};
+use crate::call::{CollectiveCall, CollectiveKind};
 use crate::fault::MachineFault;
 use crate::store::Store;
 use limits::Heap;
@@ -70,7 +70,7 @@ impl Store {
     pub fn collect(
         &mut self,
         collective: &Collective,
-        call: Call,
+        call: CollectiveCall,
         packet: &[i64],
     ) -> Result<(), MachineFault>
         requires within { IsCollectiveWithin (length self.old.variables) (length self.old.arrays) (collective_of collective.now) }
@@ -129,7 +129,7 @@ impl Store {
 }
 
 // What a packet gives behind its header, if it is one of this call.
-fn given_by(call: Call, packet: &[i64]) -> Result<&[i64], MachineFault>
+fn given_by(call: CollectiveCall, packet: &[i64]) -> Result<&[i64], MachineFault>
     ensures given { IfOk result (λ items. given_by (head_of call) packet.now ≡ Ok items.now) }
     ensures mismatch { (k : MachineFault) → result ≡ Err k → given_by (head_of call) packet.now ≡ Err k }
 {
@@ -144,26 +144,26 @@ fn given_by(call: Call, packet: &[i64]) -> Result<&[i64], MachineFault>
 }
 
 // Whether the numbers are those of the call's kind and root.
-fn is_same(call: Call, kind: i64, root: i64) -> bool
+fn is_same(call: CollectiveCall, kind: i64, root: i64) -> bool
     ensures { result ≡ (int_eq kind (pos (kind_number (kind_of call.kind))) && int_eq root (pos call.root)) }
 {
     kind == call.kind.number() && root == i64::from(call.root)
 }
 
 // Whether the number is the call's ordinal, and the items are as many as packets of its kind give.
-fn is_next(call: Call, ordinal: i64, items: &[i64]) -> bool
+fn is_next(call: CollectiveCall, ordinal: i64, items: &[i64]) -> bool
     ensures { result ≡ (int_eq ordinal (pos call.ordinal) && is_counted (kind_of call.kind) items.now) }
 {
     ordinal == i64::from(call.ordinal) && is_counted(call.kind, items)
 }
 
 // Whether packets of the kind give so many items.
-fn is_counted(kind: Kind, items: &[i64]) -> bool
+fn is_counted(kind: CollectiveKind, items: &[i64]) -> bool
     ensures { result ≡ is_counted (kind_of kind) items.now }
 {
     match kind {
-        Kind::Barrier => items.is_empty(),
-        Kind::Broadcast => true,
-        Kind::Reduce(_) => items.len() == 1,
+        CollectiveKind::Barrier => items.is_empty(),
+        CollectiveKind::Broadcast => true,
+        CollectiveKind::Reduce(_) => items.len() == 1,
     }
 }

@@ -5,12 +5,12 @@ ghost use Rattle.rank_text.specs.declared.grammar.token.Reduction.TheVariants.{S
 ghost use Rattle.rank_machine.specs.Collectives.{barriers, broadcasts, folds, others, ends, parts_among, part_of, is_last, parts_of};
 ghost use Rattle.rank_machine.specs.Calling.{part_seen, IsPartBelow, head_of};
 
-use crate::call::{Call, Kind, Part};
+use crate::call::{CollectiveCall, CollectiveKind, Part};
 use crate::store::Store;
 
 impl Store {
     // The part of the call that stands.
-    pub(super) fn part(&self, call: Call) -> Part
+    pub(super) fn part(&self, call: CollectiveCall) -> Part
         requires stage { self.now.done < length (parts_of self.now (head_of call)) }
         requires root { call.root < self.now.size }
         ensures part { part_seen result ≡ part_of self.now (head_of call) }
@@ -20,9 +20,9 @@ impl Store {
             return Part::Ends;
         }
         match call.kind {
-            Kind::Barrier => self.part_of_barrier(),
-            Kind::Broadcast => self.part_of_broadcast(call.root),
-            Kind::Reduce(_) => self.part_of_reduce(call.root),
+            CollectiveKind::Barrier => self.part_of_barrier(),
+            CollectiveKind::Broadcast => self.part_of_broadcast(call.root),
+            CollectiveKind::Reduce(_) => self.part_of_reduce(call.root),
         }
     }
 
@@ -103,22 +103,22 @@ impl Store {
     }
 
     // How many parts the call has.
-    pub(super) fn parts(&self, call: Call) -> u16
+    pub(super) fn parts(&self, call: CollectiveCall) -> u16
         ensures { result ≡ length (parts_of self.now (head_of call)) }
     {
         if self.size == 1 {
             return 1;
         }
         match call.kind {
-            Kind::Barrier => { if self.rank == 0 { 2 * self.others() } else { 2 } }
-            Kind::Broadcast => {
+            CollectiveKind::Barrier => { if self.rank == 0 { 2 * self.others() } else { 2 } }
+            CollectiveKind::Broadcast => {
                 if self.rank == call.root {
                     self.others()
                 } else {
                     1
                 }
             }
-            Kind::Reduce(_) => {
+            CollectiveKind::Reduce(_) => {
                 if self.rank == call.root {
                     self.others() + 1
                 } else {
@@ -129,7 +129,7 @@ impl Store {
     }
 
     /// Whether the part of the call that stands is its last.
-    pub fn is_last(&self, call: Call) -> bool
+    pub fn is_last(&self, call: CollectiveCall) -> bool
         ensures last { result ≡ is_last self.now (head_of call) }
         ensures parts { length (parts_of self.now (head_of call)) < 2 ^ 16 }
     {

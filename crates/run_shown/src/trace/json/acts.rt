@@ -1,16 +1,16 @@
 //! The acts of a run, an object each.
 
-use crate::json::{Lines, Object};
+use crate::json::{JsonLines, Object};
 use crate::trace::acts::{message_at, sent};
 use crate::trace::given::Told;
-use crate::trace::message::{Message, call_items, call_name, call_number};
+use crate::trace::message::{SentMessage, call_items, call_name, call_number};
 use crate::trace::place::Place;
 use crash_free::{Act, Passed};
 use limits::Heap;
 use matching::Context;
 
 /// Writes each act.
-pub fn put_acts(alloc: Heap, to: &mut Lines, told: Told<'_, '_>) {
+pub fn put_acts(alloc: Heap, to: &mut JsonLines, told: Told<'_, '_>) {
     for index in 0..told.acts.len() {
         if let (Some(passed), Some(place)) = (told.acts.get(index), told.places.get(index)) {
             let mut object = Object::new(alloc);
@@ -65,7 +65,7 @@ fn put_act(object: &mut Object, told: Told<'_, '_>, index: usize, act: &Act, pla
     }
 }
 
-fn put_message(object: &mut Object, message: Option<Message<'_>>) {
+fn put_message(object: &mut Object, message: Option<SentMessage<'_>>) {
     if let Some(message) = message {
         put_mark(object, message);
         object.integers("items", call_items(message));
@@ -83,7 +83,7 @@ pub fn put_sent(object: &mut Object, acts: &[Passed], places: &[Place], index: u
 }
 
 // By what to know a message: its tag, or the collective that it is of.
-fn put_mark(object: &mut Object, message: Message<'_>) {
+fn put_mark(object: &mut Object, message: SentMessage<'_>) {
     match message.context {
         Context::PointToPoint => object.number("tag", u64::from(message.tag)),
         Context::Collective => {

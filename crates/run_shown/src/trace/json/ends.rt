@@ -1,7 +1,7 @@
 //! How each rank ended, and which ranks wait for each other, an object each.
 
 use super::acts::put_sent;
-use crate::json::{Lines, List, Object};
+use crate::json::{JsonLines, List, Object};
 use crate::trace::circles::circle_from;
 use crate::trace::ends::{is_other, line_of, statement_of, waits_for, why_unfinished};
 use crate::trace::given::Told;
@@ -11,7 +11,7 @@ use limits::Heap;
 use matching::Selector;
 
 /// Writes each rank's end.
-pub fn put_ends(alloc: Heap, to: &mut Lines, told: Told<'_, '_>) {
+pub fn put_ends(alloc: Heap, to: &mut JsonLines, told: Told<'_, '_>) {
     for rank in 0..told.run.ranks() {
         if let Some(end) = told.ends.get(usize::from(rank)) {
             let mut object = Object::new(alloc);
@@ -67,7 +67,7 @@ fn unmatched(alloc: Heap, told: Told<'_, '_>, rank: u8, selector: Selector) -> L
 }
 
 /// Writes each circle of ranks that wait for each other.
-pub fn put_circles(alloc: Heap, to: &mut Lines, run: &Sim<'_>, ends: &[End]) {
+pub fn put_circles(alloc: Heap, to: &mut JsonLines, run: &Sim<'_>, ends: &[End]) {
     for rank in 0..run.ranks() {
         if let Some(members) = circle_from(run, ends, rank) {
             let mut list = List::new(alloc);

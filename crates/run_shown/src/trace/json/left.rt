@@ -1,7 +1,7 @@
 //! What nobody received, what the script's lines came to, and what the run took, an object each.
 
 use super::acts::put_sent;
-use crate::json::{Lines, Object};
+use crate::json::{JsonLines, Object};
 use crate::trace::fates::Fated;
 use crate::trace::given::Told;
 use crate::trace::left::unreceived_by;
@@ -12,7 +12,7 @@ use limits::Heap;
 use rank_text::script::Order;
 
 /// Writes for each rank that left messages how many they are, and the first of them.
-pub fn put_unreceived(alloc: Heap, to: &mut Lines, told: Told<'_, '_>) {
+pub fn put_unreceived(alloc: Heap, to: &mut JsonLines, told: Told<'_, '_>) {
     for rank in 0..told.run.ranks() {
         if let Some((count, first)) = unreceived_by(told.acts, told.deliveries, rank) {
             let mut object = Object::new(alloc);
@@ -27,7 +27,7 @@ pub fn put_unreceived(alloc: Heap, to: &mut Lines, told: Told<'_, '_>) {
 /// Writes each line of the script, and what became of it.
 pub fn put_orders(
     alloc: Heap,
-    to: &mut Lines,
+    to: &mut JsonLines,
     orders: &[Fated],
     acts: &[Passed],
     places: &[Place],
@@ -61,7 +61,7 @@ fn put_repeated(object: &mut Object, acts: &[Passed], places: &[Place], order: F
 }
 
 /// Writes what the run took.
-pub fn put_cost(alloc: Heap, to: &mut Lines, crashes: u64, calls: u64) {
+pub fn put_cost(alloc: Heap, to: &mut JsonLines, crashes: u64, calls: u64) {
     let mut object = Object::new(alloc);
     object.number("crashes", crashes);
     object.number("logger_calls", calls);

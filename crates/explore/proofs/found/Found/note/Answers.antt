@@ -2,7 +2,7 @@ use Rattle.std.proofs.Common.{◌≡◌, ℕ, List, Option, Some, None, slice_ge
 use Rattle.std.specs.Prelude.{IsNone, OnOk}
 use Rattle.audit.specs.FinalRuns.Maximal.{RankOutcome}
 use Rattle.explore.specs.Endings.{Ending}
-use Rattle.explore.specs.Explored.{OutcomeValue, rank_outcomes}
+use Rattle.explore.specs.Explored.{FoundOutcomeValue, rank_outcomes}
 use Rattle.explore.specs.Found.{endings_of}
 use Rattle.explore.specs.Outcomes.{IsAmong}
 use Rattle.explore.specs.Searching.{Notes}
@@ -16,15 +16,15 @@ is_none None e = refl
 is_none (Some x) e = cc
 
 -- an outcome is among some that are the same
-among_as : {xs ys : List OutcomeValue} {o p : List RankOutcome} → xs ≡ ys → o ≡ p → IsAmong (rank_outcomes xs) o → IsAmong (rank_outcomes ys) p
+among_as : {xs ys : List FoundOutcomeValue} {o p : List RankOutcome} → xs ≡ ys → o ≡ p → IsAmong (rank_outcomes xs) o → IsAmong (rank_outcomes ys) p
 among_as {xs} {ys} {o} {p} same same' a =
-    subst (λ z. IsAmong (rank_outcomes ys) z) same' (subst (λ (zs : List OutcomeValue). IsAmong (rank_outcomes zs) o) same a)
+    subst (λ z. IsAmong (rank_outcomes ys) z) same' (subst (λ (zs : List FoundOutcomeValue). IsAmong (rank_outcomes zs) o) same a)
 
 -- and stands where it did
-there_as : {xs ys : List OutcomeValue} {o p : List RankOutcome} (i : ℕ) → xs ≡ ys → o ≡ p → slice_get (rank_outcomes xs) i ≡ Some o
+there_as : {xs ys : List FoundOutcomeValue} {o p : List RankOutcome} (i : ℕ) → xs ≡ ys → o ≡ p → slice_get (rank_outcomes xs) i ≡ Some o
     → slice_get (rank_outcomes ys) i ≡ Some p
 there_as {xs} {ys} {o} {p} i same same' at =
-    subst (λ z. slice_get (rank_outcomes ys) i ≡ Some z) same' (subst (λ (zs : List OutcomeValue). slice_get (rank_outcomes zs) i ≡ Some o) same at)
+    subst (λ z. slice_get (rank_outcomes ys) i ≡ Some z) same' (subst (λ (zs : List FoundOutcomeValue). slice_get (rank_outcomes zs) i ≡ Some o) same at)
 
 pub place_of-requires : goal.place_of-requires
 place_of-requires c = λ none a.

@@ -1,7 +1,7 @@
 use Rattle.std.proofs.Common.{◌≡◌, Ok, Err, sym, ap, ◌∙◌}
 use Rattle.rank_language.specs.Seen.{collective_of}
 use Rattle.rank_machine.specs.Values.{Valued}
-use Rattle.rank_machine.specs.Collectives.{Call, called}
+use Rattle.rank_machine.specs.Collectives.{CollectiveCall, called}
 use Rattle.rank_machine.specs.Machine.{MachineValue}
 use Rattle.rank_machine.proofs.Acting.{seen_part}
 use Rattle.rank_machine.proofs.Sending.{sends_call, sent_is_machine, sent_state}
@@ -11,7 +11,7 @@ pub unreachable-requires : goal.unreachable-requires
 unreachable-requires c =
     let x = collective_of c.args.collective.now in
     let a = sends_call c.args.self.now x c.requires.at_line c.requires.line c.requires.sends in
-    let f : MachineValue → Valued Call = λ m. called m.store x in
+    let f : MachineValue → Valued CollectiveCall = λ m. called m.store x in
     let e : Err c.in_default.field-0 ≡ Ok a.call = c.in_default.ensures.call ∙ ap f c.self.view_is ∙ a.called in
     cc
 

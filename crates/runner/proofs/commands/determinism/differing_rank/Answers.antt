@@ -1,5 +1,5 @@
 use Rattle.std.proofs.Common.{◌≡◌, ◌≤◌, List, length, ap, arith}
-use Rattle.explore.specs.Explored.{ExploredValue, OutcomeValue, rank_outcomes}
+use Rattle.explore.specs.Explored.{ExploredValue, FoundOutcomeValue, rank_outcomes}
 use Rattle.runner.proofs.Determinism.{alike_all}
 use Rattle.runner.proofs.Written.{as_many}
 use Rattle.runner.proofs.commands.determinism.differing_rank.Goals as goal
@@ -8,7 +8,7 @@ use Rattle.runner.proofs.commands.determinism.differing_rank.Goals as goal
 pub returns-clause-none : goal.returns-clause-none
 returns-clause-none c =
     let over = c.loop-index-test.false in
-    let value = ap (λ (xs : List OutcomeValue). length xs) c.as_slice-outcomes.ensures.value in
+    let value = ap (λ (xs : List FoundOutcomeValue). length xs) c.as_slice-outcomes.ensures.value in
     let many = as_many c.found.inside.outcomes.items in
     let seen : length (rank_outcomes c.found.inside.outcomes.items) ≡ length c.args.found.now.outcomes =
     ap (λ (e : ExploredValue). length e.outcomes) c.found.view_is in

@@ -1,5 +1,5 @@
 use Rattle.std.proofs.Common.{◌≡◌, [], replicate}
-use Rattle.crash_free.proofs.lines.Lines.new.Given as goal
+use Rattle.crash_free.proofs.lines.PrintedValues.new.Given as goal
 
 abbrev pub invariant-loop : goal.invariant-loop
 invariant-loop l = l.rows.items ≡ replicate l.counter []

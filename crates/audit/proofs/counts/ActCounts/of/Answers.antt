@@ -3,7 +3,7 @@ use Rattle.limits.specs.Limits.{greatest_clock}
 use Rattle.event_logger.specs.Sequential.Event.{count_of}
 use Rattle.audit.specs.Counts.{ends_from}
 use Rattle.audit.proofs.Counting.{counted_more, too_many}
-use Rattle.audit.proofs.counts.Counts.of.Goals as goal
+use Rattle.audit.proofs.counts.ActCounts.of.Goals as goal
 
 pub returns-then-count-total-clause-none : goal.returns-then-count-total-clause-none
 returns-then-count-total-clause-none c =

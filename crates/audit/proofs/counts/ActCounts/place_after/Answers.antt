@@ -3,7 +3,7 @@ use Rattle.std.proofs.lemmas.List.Sorted.{searched}
 use Rattle.audit.specs.Counts.{ends_from}
 use Rattle.audit.specs.Trace.{AreInOrder}
 use Rattle.audit.proofs.Counting.{ends_rise, place_after, place_missed}
-use Rattle.audit.proofs.counts.Counts.place_after.Goals as goal
+use Rattle.audit.proofs.counts.ActCounts.place_after.Goals as goal
 
 pub returns-in-Ok : goal.returns-in-Ok
 returns-in-Ok c =

@@ -2,7 +2,7 @@ use Rattle.std.proofs.Common.{◌≡◌, ◌≤◌, length, take}
 use Rattle.limits.specs.Limits.{greatest_clock}
 use Rattle.audit.specs.Rows.{expand}
 use Rattle.audit.specs.Counts.{ends_from}
-use Rattle.audit.proofs.counts.Counts.of.Given as goal
+use Rattle.audit.proofs.counts.ActCounts.of.Given as goal
 
 -- the numbers of the events so far
 abbrev pub invariant-loop-event : goal.invariant-loop-event

@@ -2,7 +2,7 @@ use Rattle.std.proofs.Common.{◌≡◌, ◌<◌, Bool, true, Result, Ok, length
 use Rattle.std.proofs.lemmas.List.{length-reverse}
 use Rattle.explore.specs.Cycles.{StandsIn}
 use Rattle.explore.proofs.Cycles.{for_ever}
-use Rattle.explore.proofs.cycle.mark.Mark.is_met.Goals as goal
+use Rattle.explore.proofs.cycle.mark.CycleMark.is_met.Goals as goal
 
 -- an answer is what it answers
 of_ok : {E : Type 0} (b : Bool) → ◌≡◌ {A = Result Bool E} (Ok b) (Ok true) → b ≡ true

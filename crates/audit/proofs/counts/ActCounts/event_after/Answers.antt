@@ -1,6 +1,6 @@
 use Rattle.std.proofs.Common.{◌∙◌, length, sym, ap, arith}
 use Rattle.audit.proofs.Counting.{ends_length, none_at, found_read}
-use Rattle.audit.proofs.counts.Counts.event_after.Goals as goal
+use Rattle.audit.proofs.counts.ActCounts.event_after.Goals as goal
 
 pub returns-then-place-events : goal.returns-then-place-events
 returns-then-place-events c = sym (none_at c.args.events.now c.args.done c.place_after-place.result c.place_after-place.ensures c.if-place-events.true)

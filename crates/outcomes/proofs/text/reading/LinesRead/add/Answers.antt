@@ -2,7 +2,7 @@ use Rattle.std.proofs.Common.{◌≡◌, ◌∙◌, ◌∷◌, ◌++◌, [], Som
 use Rattle.outcomes.specs.declared.text.form.Entry.{Entry}
 use Rattle.outcomes.specs.Text.Texts.{AreProgress}
 use Rattle.outcomes.proofs.TextLaws.Following.{one_form}
-use Rattle.outcomes.proofs.text.reading.Reading.add.Goals as goal
+use Rattle.outcomes.proofs.text.reading.LinesRead.add.Goals as goal
 
 pub returns-clause-progress : goal.returns-clause-progress
 returns-clause-progress c =

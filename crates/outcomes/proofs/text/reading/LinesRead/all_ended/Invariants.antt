@@ -1,6 +1,6 @@
 use Rattle.std.proofs.Common.{◌≡◌, ◌≤◌, ◌-◌, true}
 use Rattle.outcomes.specs.Text.Texts.{all_ended}
-use Rattle.outcomes.proofs.text.reading.Reading.all_ended.Given as goal
+use Rattle.outcomes.proofs.text.reading.LinesRead.all_ended.Given as goal
 
 -- the ranks so far have ended
 abbrev pub invariant-loop-rank : goal.invariant-loop-rank
