@@ -11,11 +11,12 @@ from collections.abc import Callable, Iterator
 
 from .files import kit_line, sum_of_file, text_of, write
 from .making import NoModule, proved, quick, room, say
-from .proved import said_of
 from .sources import Sources
 
 TOP = os.path.dirname(os.path.dirname(os.path.dirname(os.path.realpath(__file__))))
 NAME = "ftmpi"
+# ./check writes it (scripts/proved.py).
+PROVED = "proved.txt"
 OUT = f"{TOP}/crates/{NAME}/out"
 # An estimate, in processor minutes, of all proofs of the program.
 PROOFS = 200
@@ -55,7 +56,18 @@ class Program:
             os.chmod(f"{self.path}.new", 0o755)
             os.replace(f"{self.path}.new", self.path)
             self.keep(sources)
-        return f"made in {(time.monotonic() - began) / 60:.1f} minutes; {said_of(TOP, sources)}"
+        return f"made in {(time.monotonic() - began) / 60:.1f} minutes; {said_of(sources)}"
+
+
+def on_disk() -> str:
+    """The contents of proved.txt. Empty if it isn't there."""
+    return text_of(f"{TOP}/{PROVED}") if os.path.exists(f"{TOP}/{PROVED}") else ""
+
+
+def said_of(program: str) -> str:
+    """What proved.txt says of a program whose sources have this checksum."""
+    is_so = f"program {program} by {kit_line()}" in on_disk().splitlines()
+    return "these are the sources that ./check proved" if is_so else "these sources have not been proved"
 
 
 def answering(wants_proof: bool) -> str:

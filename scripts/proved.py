@@ -1,4 +1,4 @@
-"""proved.txt: the sources that `./check` proved."""
+"""proved.txt, which ./check writes: the sources that it proved."""
 
 from __future__ import annotations
 
@@ -6,10 +6,10 @@ import os
 import shutil
 import subprocess
 
-from .files import kit_line, sum_of, text_of
-from .sources import LISTS
+from building.files import kit_line, sum_of
+from building.sources import LISTS
+from building.whole import PROVED, on_disk
 
-FILE = "proved.txt"
 HEADING = "# Written by ./check when all had passed; scripts/README.md says what the sums cover.\n"
 
 
@@ -35,19 +35,9 @@ def names_the_same(one: str, other: str) -> bool:
     return without_kit(one) == without_kit(other)
 
 
-def on_disk(top: str) -> str:
-    return text_of(f"{top}/{FILE}") if os.path.exists(f"{top}/{FILE}") else ""
-
-
-def said_of(top: str, program: str) -> str:
-    """What the file says of a program whose sources have this checksum."""
-    is_so = f"program {program} by {kit_line()}" in on_disk(top).splitlines()
-    return "these are the sources that ./check proved" if is_so else "these sources have not been proved"
-
-
 def committed(top: str) -> str:
     """The file's contents in the last commit; without git, on the disk. Empty if it isn't there."""
     if not os.path.exists(f"{top}/.git") or not shutil.which("git"):
-        return on_disk(top)
-    show = ["git", "-c", "safe.directory=*", "-C", top, "show", f"HEAD:./{FILE}"]
+        return on_disk()
+    show = ["git", "-c", "safe.directory=*", "-C", top, "show", f"HEAD:./{PROVED}"]
     return subprocess.run(show, capture_output=True, text=True, check=False).stdout

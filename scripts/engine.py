@@ -11,10 +11,11 @@ import os
 import re
 import shutil
 
-from .files import NotMade, kit_folder
-from .making import TARGET as NATIVE
-from .making import NoModule, module_of, run
-from .sources import Sources
+from building.files import NotMade, kit_folder
+from building.making import TARGET as NATIVE
+from building.making import NoModule, module_of, run
+from building.sources import Sources
+from building.whole import TOP
 
 TARGET = "wasm64-unknown-unknown"
 LAYOUT = "e-m:e-p:64:64-p10:8:8-p20:8:8-i64:64-i128:128-n32:64-S128-ni:1:10:20"
@@ -49,8 +50,7 @@ def engine(sources: Sources, folder: str) -> str:
     command([clang, f"--target={TARGET}", *FLAGS.split(), "-c", "-x", "ir", text, "-o", made], folder)
     command([f"{folder}/llvm-ar", "--format=gnu", "rc", archive, made], folder)
     command([link, "--target", TARGET, "--toolchain", kit, "--stack", str(STACK), "-o", wide, archive], folder)
-    top = os.path.dirname(os.path.dirname(os.path.dirname(os.path.realpath(__file__))))
-    command([node, f"{top}/viewer/engine/lower.js", wide, narrow], folder)
+    command([node, f"{TOP}/viewer/engine/lower.js", wide, narrow], folder)
     return narrow
 
 
