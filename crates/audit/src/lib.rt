@@ -14,6 +14,7 @@ mod outcome;
 mod trace;
 
 pub use auditing::{Audited, audit, find_run};
+pub use clocks::Clocks;
 pub use fault::AuditFault;
 pub use matching::Line;
 pub use outcome::{End, Outcome};

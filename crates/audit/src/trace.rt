@@ -66,7 +66,7 @@ impl Trace {
         ensures none { IfNone result (AreInOrder (slice_index_or self.now.sent dest [])
             → (j : ℕ) → at_place (slice_index_or self.now.sent dest []) j ≢ Some clock) }
     {
-        self.sent[usize::from(dest)].place_of(clock)
+        self.sent[usize::from(dest)].place_of(u64::from(clock))
     }
 
     pub fn events(&self) -> u32
@@ -85,7 +85,7 @@ impl Trace {
         requires { dest < length self.old.sent }
         ensures { OnOk result (self.new ≡ with_send self.old clock dest) }
     {
-        self.sent[usize::from(dest)].push(clock)?;
+        self.sent[usize::from(dest)].push(u64::from(clock))?;
         self.clock = clock;
         Ok(())
     }

@@ -5,7 +5,6 @@ ghost use Rattle.std.specs.Prelude.{◌≡◌, ℕ, ◌<◌, [], ◌∷◌, leng
 ghost use Rattle.crash_free.specs.Runs.{history, sent};
 ghost use Rattle.bare_world.specs.RunIndex.{clock_at, none_made, with_misses, IsNext};
 
-mod clocks;
 mod made;
 
 use crash_free::{Act, Passed};

@@ -1,32 +1,13 @@
 -- The clocks of what a rank sent to another in a run.
 --
--- They rise, so that a binary search finds each, and the place of a clock is that of one message.
-use Rattle.std.proofs.Common.{◌≡◌, ℕ, zero, suc, ◌+◌, ◌<◌, ◌≤◌, ◌==◌, Bool, true, false, List, [], ◌∷◌, length, map, Some, refl, sym}
-use Rattle.std.proofs.Common.{ap, ◌∙◌, arith, get_or, add-one}
-use Rattle.std.specs.Prelude.{Ok, Err}
-use Rattle.std.specs.List.Sorted.{IsBinarySearchResult}
-use Rattle.std.specs.Ordering.{nat_cmp}
-use Rattle.std.proofs.lemmas.List.Sorted.{searched}
-use Rattle.std.proofs.lemmas.Option.{slice_get_within, get_or_from_slice_get, slice_get-get_or, slice_get-map}
+-- They rise, so that the place of a clock is that of one message.
+use Rattle.std.proofs.Common.{◌≡◌, ℕ, zero, suc, ◌+◌, ◌<◌, ◌≤◌, ◌==◌, Bool, true, false, List, [], ◌∷◌, length, map, refl, sym}
+use Rattle.std.proofs.Common.{arith, get_or}
+use Rattle.std.proofs.lemmas.Option.{slice_get-map}
 use Rattle.rank_machine.specs.Acts.{Act, Message, sends, takes, hits, misses, prints}
 use Rattle.crash_free.specs.Runs.{Passed, History, at_place, history, sent, sends_from, send_at, cons_if}
 use Rattle.audit.specs.Trace.{AreInOrder}
 use Rattle.bare_world.specs.RunIndex.{clocks, clock_at}
-
--- what a binary search found is there
-pub found_there : (xs : List ℕ) (x i : ℕ) → AreInOrder xs → IsBinarySearchResult (λ y. nat_cmp y x) xs (Ok i) → at_place xs (i + 1) ≡ Some x
-found_there xs x i up h =
-    let there = searched xs x (Ok i) h up in
-    rw (add-one i) (slice_get-get_or xs i 0 there.0 ∙ ap Some there.1)
-
--- what a binary search didn't find is nowhere
-pub found_nowhere : (xs : List ℕ) (x i : ℕ) → AreInOrder xs → IsBinarySearchResult (λ y. nat_cmp y x) xs (Err i) → (j : ℕ) → at_place xs j ≡ Some x → ⊥
-found_nowhere xs x i up h zero there = cc
-found_nowhere xs x i up h (suc k) there =
-    let parted = searched xs x (Err i) h up in
-    let low = slice_get_within xs k x there in
-    let is = get_or_from_slice_get xs k x 0 there in
-    grind (arith, parted, low, is)
 
 -- the clocks of a list of messages are above k, and each is above the ones before
 Above : ℕ → List Message → Type 0

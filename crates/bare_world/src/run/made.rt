@@ -5,7 +5,7 @@ ghost use Rattle.crash_free.specs.Seen.{act_of};
 ghost use Rattle.audit.specs.Trace.{AreInOrder};
 ghost use Rattle.bare_world.specs.RunIndex.{none_made, made_with, made_without};
 
-use crate::run::clocks::Clocks;
+use audit::Clocks;
 use crash_free::Act;
 use limits::Heap;
 use std::alloc::AllocError;
