@@ -13,13 +13,6 @@ use limits::Heap;
 use std::alloc::AllocError;
 
 impl<'p, S: Shelf, D> Running<'p, S, D> {
-    /// The shelf of the rank.
-    pub fn shelf(&self) -> &S
-        ensures { result.now ≡ self.now.stable.shelf }
-    {
-        self.stable.shelf()
-    }
-
     /// The same rank, in memory of its own, with this desk and this shelf. An
     /// `Err` means out of memory, and gives back what was given.
     pub fn copy(&self, alloc: Heap, desk: D, shelf: S) -> Result<Running<'p, S, D>, (D, S)>
@@ -67,13 +60,6 @@ impl<'p, S: Shelf, D> Running<'p, S, D> {
 }
 
 impl<'p, S: Shelf, D> Replaying<'p, S, D> {
-    /// The shelf of the rank.
-    pub fn shelf(&self) -> &S
-        ensures { result.now ≡ self.now.node.stable.shelf }
-    {
-        self.running.shelf()
-    }
-
     /// The same rank, in memory of its own, with this desk and this shelf. An
     /// `Err` means out of memory, and gives back what was given.
     pub fn copy(&self, alloc: Heap, desk: D, shelf: S) -> Result<Replaying<'p, S, D>, (D, S)>
@@ -93,13 +79,6 @@ impl<'p, S: Shelf, D> Replaying<'p, S, D> {
 }
 
 impl<S: Shelf, D> Down<S, D> {
-    /// The shelf of the rank.
-    pub fn shelf(&self) -> &S
-        ensures { result.now ≡ self.now.shelf }
-    {
-        self.stable.shelf()
-    }
-
     /// The same rank, with this desk and this shelf.
     pub fn copy(&self, desk: D, shelf: S) -> Down<S, D>
         ensures { result ≡ stored_with self.now desk shelf }

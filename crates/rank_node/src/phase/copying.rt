@@ -12,9 +12,9 @@ impl<'p, S: Shelf, D> Phase<'p, S, D> {
         ensures { result.now ≡ (stable_in self.now).shelf }
     {
         match self {
-            Phase::Running(rank) => rank.shelf(),
-            Phase::Replaying(rank) => rank.shelf(),
-            Phase::Down(rank) => rank.shelf(),
+            Phase::Running(rank) => rank.stable.shelf(),
+            Phase::Replaying(rank) => rank.running.stable.shelf(),
+            Phase::Down(rank) => rank.stable.shelf(),
         }
     }
 

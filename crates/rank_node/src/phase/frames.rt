@@ -38,7 +38,7 @@ impl<'p, S: Shelf, D> Phase<'p, S, D> {
     {
         match self {
             Phase::Running(rank) => rank.has_outgoing(dest),
-            Phase::Replaying(rank) => rank.has_outgoing(dest),
+            Phase::Replaying(rank) => rank.running.has_outgoing(dest),
             Phase::Down(_) => false,
         }
     }

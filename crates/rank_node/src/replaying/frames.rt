@@ -1,5 +1,5 @@
 //! The frames of a rank that replays: those that arrive, and those that go out.
-ghost use Rattle.std.specs.Prelude.{◌≡◌, ◌<◌, is_some, IsSome, IfOk, IfErr, OnOk, OnErr};
+ghost use Rattle.std.specs.Prelude.{◌≡◌, ◌<◌, IsSome, IfOk, IfErr, OnOk, OnErr};
 
 use crate::fault::NodeFault;
 use crate::frame::Frame;
@@ -24,14 +24,6 @@ impl<'p, S: Shelf, D> Replaying<'p, S, D> {
         ensures stable { self.new.node.stable ≡ self.old.node.stable }
     {
         self.running.arrive(from, frame)
-    }
-
-    /// Whether anything goes to this rank, which must be below the size.
-    pub fn has_outgoing(&self, dest: u8) -> bool
-        requires { dest < self.now.node.stable.size }
-        ensures { result ≡ is_some (outgoing_of self.now.node dest) }
-    {
-        self.running.has_outgoing(dest)
     }
 
     /// What goes to this rank next, which must be below the size: a due `Ask`,
