@@ -112,6 +112,7 @@ impl Inbox {
 
     /// Takes in a packet that is the next of its source, and drops any other.
     /// An `Err` means out of memory.
+    #[inline(always)]
     pub fn accept(&mut self, packet: Packet) -> Result<Accept, Packet>
         requires { packet.source < length self.old.accepted }
         ensures answer { IfOk result (λ answer. answer ≡ answer_to self.old packet) }
@@ -177,6 +178,7 @@ impl Inbox {
 
     /// The first packet in order of acceptance that the selector names, as
     /// `find` and `get` give it.
+    #[inline(always)]
     pub fn first(&self, selector: &Selector) -> Option<&Packet>
         ensures first { option_copied result ≡ first_by (matches selector.now) self.now.packets }
         ensures none { result ≡ None → position (matches selector.now) self.now.packets ≡ None }
@@ -202,6 +204,7 @@ impl Inbox {
     }
 
     /// Takes the first packet that the selector names, as `find` and `take` do.
+    #[inline(always)]
     pub fn take_first(&mut self, selector: &Selector) -> Option<Packet>
         ensures taken { result ≡ first_by (matches selector.now) self.old.packets }
         ensures none { result ≡ None → position (matches selector.now) self.old.packets ≡ None }

@@ -59,6 +59,7 @@ impl Queue {
 
     /// Puts the packet behind the others; it comes back where there is no
     /// memory for it.
+    #[inline(always)]
     pub(crate) fn push(&mut self, packet: Packet) -> Result<(), Packet>
         ensures ok { OnOk result (self.new ≡ self.old ++ packet ∷ []) }
         ensures back { IfErr result (λ back. back ≡ packet) }
@@ -93,6 +94,7 @@ impl Queue {
     }
 
     /// The first packet that the label names.
+    #[inline(always)]
     pub(crate) fn first(&self, label: Label) -> Option<&Packet>
         ensures { option_copied result ≡ first_by (names label) self.now }
     {
@@ -103,6 +105,7 @@ impl Queue {
     }
 
     /// Takes the first packet that the label names.
+    #[inline(always)]
     pub(crate) fn take_first(&mut self, label: Label) -> Option<Packet>
         ensures taken { result ≡ first_by (names label) self.old }
         ensures left { self.new ≡ without_first (names label) self.old }
@@ -173,6 +176,7 @@ fn at(front: &Vec<Packet, Heap>, index: usize) -> &Packet
 }
 
 // Those behind the packet move up.
+#[inline(always)]
 #[tactic(auto, using(std::proofs::lemmas::Option::slice_get_read))]
 fn take_at(front: &mut Vec<Packet, Heap>, index: usize) -> Packet
     requires { index < length front.old.items }
@@ -183,6 +187,7 @@ fn take_at(front: &mut Vec<Packet, Heap>, index: usize) -> Packet
 }
 
 // Where the first packet stands that the label names.
+#[inline(always)]
 fn walk(front: &Vec<Packet, Heap>, label: Label) -> Option<usize>
     ensures { result ≡ position (names label) front.now.items }
 {

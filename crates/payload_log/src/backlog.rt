@@ -74,6 +74,7 @@ impl Backlog {
 
     /// Counts the packet, and keeps it where its number is above the base. An
     /// `Err` means out of memory.
+    #[inline(always)]
     pub fn save(&mut self, packet: Packet) -> Result<(), Packet>
         requires next { packet.number ≡ self.old.sent + 1 }
         requires none_held { self.old.held ≡ [] }

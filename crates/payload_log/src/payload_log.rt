@@ -64,6 +64,7 @@ impl PayloadLog {
 
     /// Counts the packet, and keeps it where its number is above the base. An
     /// `Err` means out of memory.
+    #[inline(always)]
     pub fn save(&mut self, dest: usize, packet: Packet) -> Result<(), Packet>
         requires there { dest < length self.old }
         requires next { packet.number ≡ (backlog self.old dest).sent + 1 }

@@ -19,6 +19,7 @@ impl<'p, S: Shelf, D> Running<'p, S, D> {
     /// its number, which suppresses duplicates; a retransmission request
     /// (`Ask`) and a garbage-collection notice (`Kept`, which prunes) go to the
     /// payload log. An `Err` means out of memory, and gives the frame back.
+    #[inline(always)]
     pub fn arrive(&mut self, from: u8, frame: Frame) -> Result<Arrived, (Frame, NodeFault)>
         requires { from < self.old.stable.size }
         ensures answer { IfOk result (λ answer. answer ≡ arrival_of self.old from frame) }
@@ -61,6 +62,7 @@ impl<'p, S: Shelf, D> Running<'p, S, D> {
 
     /// What goes to this rank next: a due `Ask`, else a due `Kept`, else the
     /// payload log's next packet. An `Err` means out of memory.
+    #[inline(always)]
     pub fn outgoing(&self, dest: u8) -> Result<Option<Frame>, NodeFault>
         requires { dest < self.now.stable.size }
         ensures ok { IfOk result (λ frame. frame ≡ outgoing_of self.now dest) }

@@ -133,6 +133,7 @@ impl<'p, S: Shelf, D> Running<'p, S, D> {
     }
 
     /// What its machine wants next, with what was evaluated to find it.
+    #[inline(always)]
     pub fn wanted(&self) -> Wanted
         ensures { IsWantedBy self.now.machine result }
     {

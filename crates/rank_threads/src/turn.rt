@@ -2,6 +2,11 @@
 //! (`taking`), a step (`stepping`), what the script asks for and whether an image is
 //! due (`orders`), what waits at the gate (`clearing`), what goes out (`putting`),
 //! and the rank's mark (`leaving`).
+//!
+//! What a message passes on its way is inlined into the turn, from the machine's send
+//! and the lane to inbox and payload log (`inline(always)`, here and in the crates
+//! below). A function that holds a packet clears room for it first, and moves it there
+//! and on, so each call between would cost some dozens of instructions.
 ghost use Rattle.std.specs.Prelude.{◌≡◌, true, false, Some, IfOk};
 ghost use Rattle.rank_node.specs.Phases.{clock_in, settled_in};
 ghost use Rattle.rank_threads.specs.Clearing.{leaves_misses};

@@ -14,6 +14,7 @@ impl<'p, S: Shelf, D> Phase<'p, S, D> {
     /// Takes in a frame that came from this rank. One that is down drops it,
     /// and answers nothing. An `Err` means out of memory, and gives the frame
     /// back.
+    #[inline(always)]
     pub fn arrive(&mut self, from: u8, frame: Frame) -> Result<Option<Arrived>, (Frame, NodeFault)>
         requires { from < (stable_in self.old).size }
         ensures answer { IfOk result (λ answer. answer ≡ arrival_in self.old from frame) }
@@ -45,6 +46,7 @@ impl<'p, S: Shelf, D> Phase<'p, S, D> {
 
     /// What goes to this rank next; nothing from one that is down. An `Err`
     /// means out of memory.
+    #[inline(always)]
     pub fn outgoing(&self, dest: u8) -> Result<Option<Frame>, NodeFault>
         requires { dest < (stable_in self.now).size }
         ensures ok { IfOk result (λ frame. frame ≡ outgoing_in self.now dest) }

@@ -24,6 +24,7 @@ pub enum PutResult {
 impl<'p, 'l> Node<'p, 'l> {
     /// Takes in a frame that came from this rank. One that is down drops it.
     /// An `Err` means out of memory.
+    #[inline(always)]
     #[tactic(auto, using(crate::proofs::GateLemmas::arrived_waits))]
     pub fn arrive(&mut self, from: u8, frame: Frame) -> Result<(), AllocError>
         requires { from < self.old.size }
@@ -49,6 +50,7 @@ impl<'p, 'l> Node<'p, 'l> {
     /// Puts what is outgoing to this rank next into the lane to it: it is gone
     /// when it is in the lane, and not before. An `Err` means out of memory, and
     /// leaves all as it was.
+    #[inline(always)]
     #[tactic(auto, using(crate::proofs::GateLemmas::gone_waits, crate::proofs::PuttingLemmas::others_laws))]
     pub fn put_one(&mut self, dest: u8, lane: &mut Tx) -> Result<PutResult, AllocError>
         requires there { dest < self.old.size }

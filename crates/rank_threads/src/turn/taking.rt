@@ -22,6 +22,7 @@ const BATCH: u8 = 16;
 /// Takes what the lanes bring, by rising source, from each at most as many frames
 /// as a turn takes, and answers whether a frame came. Each lane is looked at. An
 /// `Err` means out of memory.
+#[inline(always)]
 #[tactic(auto, using(crate::proofs::TakingLemmas::some_at_once, crate::proofs::TakingLemmas::took_before, crate::proofs::TakingLemmas::took_next))]
 pub fn take_in<H>(
     shared: &Shared<'_, H>,
@@ -54,6 +55,7 @@ fn frames_at_once(life: &Life<'_, '_>) -> u8
 // Where it stops before the lane is empty it rings the rank's own bell. The rings for
 // what is left may all be taken back by now, and nobody else need ring again: without
 // one more the next turn would look at no lane, and the rank could wait for ever.
+#[inline(always)]
 #[tactic(auto, using(crate::proofs::TakingLemmas::took_laws, crate::proofs::LookLemmas::look_laws))]
 fn take_all_from<H>(
     shared: &Shared<'_, H>,
@@ -87,6 +89,7 @@ pub struct EmptyLanes(LanesSeen);
 
 /// Takes what the lanes bring, and says so where that is nothing. An `Err` is
 /// refused memory.
+#[inline(always)]
 pub fn drain_lanes<H>(
     shared: &Shared<'_, H>,
     life: &mut Life<'_, '_>,
@@ -141,6 +144,7 @@ pub fn is_frames(brought: Arrivals) -> bool
 
 // The next frame from this rank arrives, where one is seen. (A look in vain is so cheap as a function
 // that holds a frame isn't, which clears room for it.)
+#[inline(always)]
 #[tactic(auto, using(crate::proofs::TakingLemmas::took_none, crate::proofs::TakingLemmas::took_behind))]
 fn take_one<H>(
     shared: &Shared<'_, H>,
@@ -161,6 +165,7 @@ fn take_one<H>(
 }
 
 // The next frame from this rank arrives, where there is one.
+#[inline(always)]
 #[tactic(auto, using(crate::proofs::TakingLemmas::took_none, crate::proofs::TakingLemmas::took_frame))]
 fn take_next<H>(
     shared: &Shared<'_, H>,
