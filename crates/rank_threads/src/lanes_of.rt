@@ -52,6 +52,7 @@ pub fn sees_frame(lanes: &mut Vec<Rx, Heap>, source: u8, looked: &mut LanesSeen)
 }
 
 /// The next frame of the lane from this rank, where there is one.
+#[inline(always)]
 #[tactic(auto, using(crate::proofs::LaneLists::map_set_same, crate::proofs::TakingLemmas::takes_looked, crate::proofs::TakingLemmas::takes_none))]
 pub fn take_from(lanes: &mut Vec<Rx, Heap>, source: u8) -> Option<Frame>
     ensures takes { Takes source (those_of result) lanes.old.items lanes.new.items }
