@@ -1,20 +1,16 @@
 -- What options are given, and files in order.
 use Rattle.std.proofs.Common.{◌≡◌, ◌⊎◌, ℕ, List, [], ◌∷◌, Option, Some, None, inl, inr, refl, subst}
-use Rattle.std.specs.Prelude.{IfSome, IsSomeAnd, slice_get}
+use Rattle.std.specs.Prelude.{IfSome, slice_get}
 use Rattle.std.specs.NonZero.{non_zero_u32_get}
 use Rattle.std.specs.declared.num.NonZeroU32.{NonZeroU32}
-use Rattle.command_line.specs.Words.{IsSpelledIf, IsSpelledOr, Spells}
+use Rattle.command_line.specs.Ranges.{IsSpelledElse}
+use Rattle.command_line.specs.Words.{IsSpelledIf, Spells}
 
--- what follows for an option of what holds of its value
-pub given : (o : Option (List ℕ)) (text : List ℕ) (number : ℕ) → Some text ≡ o → Spells text number
-    → IsSomeAnd o (λ t. Spells t number)
-given o text number e it = subst (λ (p : Option (List ℕ)). IsSomeAnd p (λ t. Spells t number)) e it
-
--- the number that a text spells, where an option is given this text
-pub spelled : (default : ℕ) (o : Option (List ℕ)) (text : List ℕ) (number : Option ℕ) → Some text ≡ o
-    → IfSome number (λ n. Spells text n) → IfSome number (λ n. IsSpelledOr default o n)
-spelled default o text None e it = it
-spelled default o text (Some n) e it = subst (λ (p : Option (List ℕ)). IsSpelledOr default p n) e it
+-- the number that a text spells, whatever the default is
+pub spelled : (default : Option ℕ) (text : List ℕ) (number : ℕ) → Spells text number
+    → IsSpelledElse default (Some text) number
+spelled None text number it = it
+spelled (Some default) text number it = it
 
 -- the number above 0 that a text spells, where an option is given this text
 pub counted : (o : Option (List ℕ)) (text : List ℕ) (count : Option NonZeroU32) → Some text ≡ o

@@ -1,5 +1,5 @@
 pub mod Words
-pub mod Commands
+pub mod Ranges
 pub mod Schedules
 pub mod Jobs
 pub mod Requests

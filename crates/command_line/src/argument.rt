@@ -1,6 +1,6 @@
 //! What an argument of a command is, and how `clap` hears of it.
-use clap::{Arg, ArgAction, Command, value_parser};
-use limits::MOST_RANKS;
+use crate::range::{FROM_ONE, RANKS_RANGE, Range, ShownRange};
+use clap::{Arg, ArgAction, Command};
 use std::alloc::{AllocError, Global};
 
 /// A command of the program, and what its help says.
@@ -22,8 +22,6 @@ pub struct Argument {
     pub value: &'static str,
     pub help: &'static str,
     pub given: ArgumentKind,
-    /// What it is given where it isn't there.
-    pub default: Option<&'static str>,
     pub is_required: bool,
     /// No help has it.
     pub is_hidden: bool,
@@ -43,7 +41,9 @@ pub enum ArgumentKind {
     /// The file or the word of an option.
     Text,
     /// A number in this range.
-    Number { least: i64, most: i64 },
+    Number(Range),
+    /// The same, and helps show its default.
+    Shown(ShownRange),
 }
 
 /// A file that stands at its place, and has to.
@@ -52,7 +52,6 @@ pub const FILE: Argument = Argument {
     value: "",
     help: "",
     given: ArgumentKind::File,
-    default: None,
     is_required: true,
     is_hidden: false,
     with: None,
@@ -76,10 +75,7 @@ pub const FILE_OF: Argument = Argument {
 
 /// An option that is given a number from 1 to 1000000000.
 pub const NUMBER: Argument = Argument {
-    given: ArgumentKind::Number {
-        least: 1,
-        most: 1000000000,
-    },
+    given: ArgumentKind::Number(FROM_ONE),
     is_required: false,
     ..FILE
 };
@@ -89,10 +85,7 @@ pub const RANKS: Argument = Argument {
     name: "ranks",
     value: "N",
     help: "The number of ranks, 1 to 16",
-    given: ArgumentKind::Number {
-        least: 1,
-        most: MOST_RANKS as i64,
-    },
+    given: ArgumentKind::Number(RANKS_RANGE),
     is_required: true,
     ..NUMBER
 };
@@ -104,8 +97,7 @@ impl Argument {
             .help(self.help)
             .required(self.is_required)
             .hide(self.is_hidden);
-        let argument = or_default(self.given(argument), self.default);
-        required_by(argument, self.with)?.conflicts_with_all(self.without)
+        required_by(self.given(argument), self.with)?.conflicts_with_all(self.without)
     }
 
     fn given<'a>(&self, argument: Arg<'a>) -> Arg<'a> {
@@ -113,9 +105,11 @@ impl Argument {
             ArgumentKind::File => self.value(argument),
             ArgumentKind::Nothing => argument.long(self.name).action(ArgAction::SetTrue),
             ArgumentKind::Text => self.option(argument),
-            ArgumentKind::Number { least, most } => self
-                .option(argument)
-                .value_parser(value_parser!(u32).range(least..=most)),
+            ArgumentKind::Number(range) => range.made(self.option(argument)),
+            ArgumentKind::Shown(numbers) => numbers
+                .range
+                .made(self.option(argument))
+                .default_value(numbers.default),
         }
     }
 
@@ -125,13 +119,6 @@ impl Argument {
 
     fn value<'a>(&self, argument: Arg<'a>) -> Arg<'a> {
         argument.value_name(self.value).action(ArgAction::Set)
-    }
-}
-
-fn or_default<'a>(argument: Arg<'a>, default: Option<&'static str>) -> Arg<'a> {
-    match default {
-        Some(value) => argument.default_value(value),
-        None => argument,
     }
 }
 

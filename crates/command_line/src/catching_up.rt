@@ -1,9 +1,10 @@
 //! The words of `catch-up`.
 ghost use Rattle.std.specs.Prelude.{◌≤◌};
 
-use crate::argument::{Argument, CommandForm, FLAG, NUMBER, RANKS};
+use crate::argument::{Argument, ArgumentKind, CommandForm, FLAG, NUMBER, RANKS};
 use crate::help;
 use crate::job::WorldJob;
+use crate::range::{MOST, ShownRange, shown};
 use crate::syntax::{EVENTS, PROGRAM};
 
 /// One world that is wanted at its end, where no rank makes more than so many
@@ -31,7 +32,7 @@ pub const CATCH_UP: CommandForm = CommandForm {
             name: "steps",
             value: "S",
             help: "Steps of a rank in them, 1 to 1000000000",
-            default: Some("100000"),
+            given: ArgumentKind::Shown(STEPS_RANGE),
             with: Some("to-the-end"),
             ..NUMBER
         },
@@ -39,3 +40,6 @@ pub const CATCH_UP: CommandForm = CommandForm {
         EVENTS,
     ],
 };
+
+/// The numbers of `--steps`.
+pub const STEPS_RANGE: ShownRange = shown!(1, MOST, 100000);

@@ -2,9 +2,11 @@
 ghost use Rattle.std.specs.Prelude.{◌≤◌};
 ghost use Rattle.limits.specs.Limits.{most_ranks};
 
-use crate::argument::{Argument, CommandForm, FILE_OF, RANKS};
+use crate::argument::{Argument, ArgumentKind, CommandForm, FILE_OF, RANKS};
 use crate::help;
+use crate::range::Range;
 use crate::syntax::PROGRAM;
+use limits::MOST_RANKS;
 
 /// The texts whose first fault is to be explained. The script is one for so many
 /// ranks.
@@ -24,6 +26,7 @@ pub const EXPLAIN: CommandForm = CommandForm {
     help: help::EXPLAIN,
     arguments: &[
         Argument {
+            given: ArgumentKind::Number(RANKS_OR_MOST),
             is_required: false,
             ..RANKS
         },
@@ -40,4 +43,11 @@ pub const EXPLAIN: CommandForm = CommandForm {
         },
         PROGRAM,
     ],
+};
+
+/// Numbers of ranks, or the most that there may be. Without `--ranks` there is no script.
+pub const RANKS_OR_MOST: Range = Range {
+    least: 1,
+    most: MOST_RANKS as u32,
+    default: Some(MOST_RANKS as u32),
 };

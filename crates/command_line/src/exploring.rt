@@ -2,8 +2,9 @@
 ghost use Rattle.std.specs.Prelude.{◌≤◌};
 ghost use Rattle.limits.specs.Limits.{most_ranks};
 
-use crate::argument::{Argument, CommandForm, FLAG, NUMBER, RANKS};
+use crate::argument::{Argument, ArgumentKind, CommandForm, FLAG, NUMBER, RANKS};
 use crate::help;
+use crate::range::{MOST, ShownRange, shown};
 use crate::syntax::{PROGRAM, SYNCHRONOUS};
 
 /// In which form the outcomes are printed.
@@ -46,21 +47,21 @@ pub const EXPLORE: CommandForm = CommandForm {
             name: "runs",
             value: "M",
             help: "Runs looked at, 1 to 1000000000",
-            default: Some("100000"),
+            given: ArgumentKind::Shown(RUNS_RANGE),
             ..NUMBER
         },
         Argument {
             name: "steps",
             value: "S",
             help: "Steps of a rank in a run, 1 to 1000000000",
-            default: Some("100000"),
+            given: ArgumentKind::Shown(STEPS_RANGE),
             ..NUMBER
         },
         Argument {
             name: "states",
             value: "K",
             help: "States kept to merge, 1 to 1000000000",
-            default: Some("1000000"),
+            given: ArgumentKind::Shown(STATES_RANGE),
             ..NUMBER
         },
         Argument {
@@ -85,3 +86,12 @@ pub const EXPLORE: CommandForm = CommandForm {
         PROGRAM,
     ],
 };
+
+/// The numbers of `--runs`.
+pub const RUNS_RANGE: ShownRange = shown!(1, MOST, 100000);
+
+/// The numbers of `--steps`.
+pub const STEPS_RANGE: ShownRange = shown!(1, MOST, 100000);
+
+/// The numbers of `--states`.
+pub const STATES_RANGE: ShownRange = shown!(1, MOST, 1000000);

@@ -2,8 +2,9 @@
 ghost use Rattle.std.specs.Prelude.{◌≤◌};
 ghost use Rattle.limits.specs.Limits.{most_ranks};
 
-use crate::argument::{Argument, CommandForm, FILE, FLAG, NUMBER, RANKS};
+use crate::argument::{Argument, ArgumentKind, CommandForm, FILE, FLAG, NUMBER, RANKS};
 use crate::help;
+use crate::range::{MOST, ShownRange, shown};
 use crate::syntax::PROGRAM;
 
 /// One outcome that is judged: whether some run of the program without crashes
@@ -31,7 +32,7 @@ pub const JUDGE: CommandForm = CommandForm {
             name: "steps",
             value: "S",
             help: "Steps a rank may make, 1 to 1000000000",
-            default: Some("1000000"),
+            given: ArgumentKind::Shown(STEPS_RANGE),
             ..NUMBER
         },
         Argument {
@@ -48,3 +49,6 @@ pub const JUDGE: CommandForm = CommandForm {
         },
     ],
 };
+
+/// The numbers of `--steps`.
+pub const STEPS_RANGE: ShownRange = shown!(1, MOST, 1000000);

@@ -14,6 +14,7 @@ mod job;
 mod judging;
 mod named;
 mod no_job;
+mod range;
 mod requests;
 mod scheduling;
 mod soaking;

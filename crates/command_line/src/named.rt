@@ -5,7 +5,6 @@ ghost use Rattle.command_line.specs.Requests.{IsAsked};
 ghost use Rattle.command_line.specs.Words.{texts};
 
 mod checks;
-mod commands;
 mod runs;
 mod searches;
 mod soaks;
@@ -14,7 +13,6 @@ mod worlds;
 use crate::help;
 use crate::job::Job;
 use crate::named::checks::{c_of, check_of, explain_of};
-use crate::named::commands::{CommandName, command_called};
 use crate::named::runs::{cost_form_of, run_of, trace_of};
 use crate::named::searches::{explore_of, judge_of};
 use crate::named::soaks::{script_of, soak_of};
@@ -22,7 +20,7 @@ use crate::named::worlds::{finish_of, world_of};
 use crate::no_job::NoJob;
 use crate::scheduling::is_unknown;
 use crate::syntax::syntax;
-use crate::words::{is_given, value_of};
+use crate::words::{is, is_given, value_of};
 use clap::error::ErrorKind;
 use clap::{Command, Error};
 use std::alloc::Global;
@@ -83,41 +81,31 @@ fn named<'a>(words: &'a [String]) -> Option<Job<'a>>
 fn chosen<'a>(command: &str, arguments: &'a [String]) -> Option<Job<'a>>
     ensures { IfSome result (λ job. IsJobBy command.now (texts arguments.entry.now) job) }
 {
-    let Some(called) = command_called(command) else {
-        return None;
-    };
-    match called {
-        CommandName::Check => match check_of(command, arguments) {
-            Some(check) => Some(Job::Check(check)),
-            None => None,
-        },
-        CommandName::C => match c_of(command, arguments) {
-            Some(c) => Some(Job::C(c)),
-            None => None,
-        },
-        CommandName::Run => match run_of(command, arguments, cost_form_of(arguments)) {
+    if is(command, "check") {
+        check_of(command, arguments)
+    } else if is(command, "c") {
+        c_of(command, arguments)
+    } else if is(command, "run") {
+        match run_of(command, arguments, cost_form_of(arguments)) {
             Some(run) => Some(Job::Run(run)),
             None => None,
-        },
-        CommandName::Trace => match trace_of(command, arguments) {
-            Some(trace) => Some(Job::Trace(trace)),
-            None => None,
-        },
-        CommandName::World => world_job(command, arguments),
-        CommandName::CatchUp => catch_up_job(command, arguments),
-        CommandName::Explain => match explain_of(command, arguments) {
-            Some(texts) => Some(Job::Explain(texts)),
-            None => None,
-        },
-        CommandName::Explore => match explore_of(command, arguments) {
-            Some(search) => Some(Job::Explore(search)),
-            None => None,
-        },
-        CommandName::Judge => match judge_of(command, arguments) {
-            Some(outcome) => Some(Job::Judge(outcome)),
-            None => None,
-        },
-        CommandName::Soak => soak_job(command, arguments),
+        }
+    } else if is(command, "trace") {
+        trace_of(command, arguments)
+    } else if is(command, "world") {
+        world_job(command, arguments)
+    } else if is(command, "catch-up") {
+        catch_up_job(command, arguments)
+    } else if is(command, "explain") {
+        explain_of(command, arguments)
+    } else if is(command, "explore") {
+        explore_of(command, arguments)
+    } else if is(command, "judge") {
+        judge_of(command, arguments)
+    } else if is(command, "soak") {
+        soak_job(command, arguments)
+    } else {
+        None
     }
 }
 
@@ -125,16 +113,10 @@ fn world_job<'a>(command: &str, arguments: &'a [String]) -> Option<Job<'a>>
     requires { command.now ≡ codes "world" }
     ensures { IfSome result (λ job. IsJobBy command.now (texts arguments.entry.now) job) }
 {
-    if is_given("json", arguments) {
-        match world_of(command, arguments) {
-            Some(world) => Some(Job::WorldJson(world)),
-            None => None,
-        }
-    } else {
-        match world_of(command, arguments) {
-            Some(world) => Some(Job::World(world)),
-            None => None,
-        }
+    match world_of(command, arguments) {
+        Some(world) if is_given("json", arguments) => Some(Job::WorldJson(world)),
+        Some(world) => Some(Job::World(world)),
+        None => None,
     }
 }
 

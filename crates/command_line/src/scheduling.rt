@@ -4,7 +4,8 @@ ghost use Rattle.command_line.specs.Schedules.{IsPolicyIf, IsSchedulingOf, polic
 ghost use Rattle.command_line.specs.Words.{texts, value_of};
 
 use crate::argument::{Argument, ArgumentKind, FILE_OF, NUMBER};
-use crate::words::{is, limit_or, number_or, value_of};
+use crate::range::{MOST, Range};
+use crate::words::{is, value_of};
 
 /// In which order ranks take turns that take them on one thread.
 #[derive(Clone, Copy)]
@@ -44,11 +45,15 @@ pub const SEED: Argument = Argument {
     name: "seed",
     value: "S",
     help: "Seed of the turns, 0 to 1000000000; 1 if not given",
-    given: ArgumentKind::Number {
-        least: 0,
-        most: 1000000000,
-    },
+    given: ArgumentKind::Number(SEED_RANGE),
     ..NUMBER
+};
+
+/// Its numbers.
+pub const SEED_RANGE: Range = Range {
+    least: 0,
+    most: MOST,
+    default: Some(1),
 };
 
 /// How many turns there may be.
@@ -56,7 +61,15 @@ pub const TURNS: Argument = Argument {
     name: "turns",
     value: "T",
     help: "Turns of all ranks, 1 to 1000000000",
+    given: ArgumentKind::Number(TURNS_RANGE),
     ..NUMBER
+};
+
+/// Its numbers.
+pub const TURNS_RANGE: Range = Range {
+    least: 1,
+    most: MOST,
+    default: Some(100000000),
 };
 
 /// The policy that the word names, if it names one.
@@ -105,8 +118,8 @@ pub fn scheduling_of(arguments: &[String]) -> Option<Scheduling>
 {
     let (Some(policy), Some(seed), Some(turns)) = (
         policy_if(arguments),
-        number_or(1, "seed", arguments),
-        limit_or(100000000, "turns", arguments),
+        SEED_RANGE.number(value_of("seed", arguments)),
+        TURNS_RANGE.number(value_of("turns", arguments)),
     ) else {
         return None;
     };

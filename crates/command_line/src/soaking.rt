@@ -4,6 +4,7 @@ ghost use Rattle.limits.specs.Limits.{most_ranks, most_script_lines};
 
 use crate::argument::{Argument, ArgumentKind, CommandForm, NUMBER, RANKS};
 use crate::help;
+use crate::range::{MOST, ShownRange, shown};
 use crate::scheduling::{SCHEDULE, SEED, Scheduling, TURNS};
 use crate::syntax::{IDLE, IMAGES_EVERY, PROGRAM, STEPS_OF_A_RUN};
 use limits::MOST_SCRIPT_LINES;
@@ -53,12 +54,12 @@ pub const SOAK: CommandForm = CommandForm {
             name: "runs",
             value: "K",
             help: "Runs made, 1 to 1000000000",
-            default: Some("100"),
+            given: ArgumentKind::Shown(RUNS_RANGE),
             ..NUMBER
         },
         Argument {
             help: "Seed of the scripts, 0 to 1000000000",
-            default: Some("1"),
+            given: ArgumentKind::Shown(SEED_RANGE),
             ..SEED
         },
         Argument {
@@ -89,10 +90,15 @@ pub const SOAK: CommandForm = CommandForm {
 /// How many lines of a kind a script has at most.
 const LINES: Argument = Argument {
     value: "M",
-    given: ArgumentKind::Number {
-        least: 0,
-        most: MOST_SCRIPT_LINES as i64 / 2,
-    },
-    default: Some("2"),
+    given: ArgumentKind::Shown(LINES_RANGE),
     ..NUMBER
 };
+
+/// The numbers of `--runs`.
+pub const RUNS_RANGE: ShownRange = shown!(1, MOST, 100);
+
+/// The numbers of `--seed`, by which scripts are drawn.
+pub const SEED_RANGE: ShownRange = shown!(0, MOST, 1);
+
+/// The numbers of `--kills` and of `--images`.
+pub const LINES_RANGE: ShownRange = shown!(0, MOST_SCRIPT_LINES as u32 / 2, 2);

@@ -3,14 +3,12 @@
 //! `clap` takes no word for a value that begins with two hyphens, unless it stands
 //! behind an equals sign or behind `--`. So each word before `--` that begins so is
 //! an option.
-ghost use Rattle.std.specs.Prelude.{◌≡◌, ◌≤◌, ◌<◌, [], ◌∷◌, IfSome, IsSomeAnd, codes, length, option_map, slice_get};
+ghost use Rattle.std.specs.Prelude.{◌≡◌, ◌<◌, [], ◌∷◌, IfSome, length, option_map, slice_get};
 ghost use Rattle.std.specs.NonZero.{non_zero_u32_get};
 ghost use Rattle.std.specs.Str.{bytes_eq};
-ghost use Rattle.limits.specs.Limits.{most_ranks};
-ghost use Rattle.command_line.specs.Words.{IsSpelledIf, IsSpelledOr, Spells, behind_hyphen, cut_of, files_behind, files_of, first_of, given_by};
+ghost use Rattle.command_line.specs.Words.{IsSpelledIf, Spells, behind_hyphen, cut_of, files_behind, files_of, first_of, given_by};
 ghost use Rattle.command_line.specs.Words.{is_end, is_flag, is_given, is_option, name_and_value, option_in, own_value, takes_next, texts, value_of};
 
-use limits::MOST_RANKS;
 use std::num::NonZeroU32;
 
 /// Whether the word is this text. Each `==` of texts would be proved anew.
@@ -231,28 +229,6 @@ pub fn two_files<'a>(command: &str, arguments: &'a [String]) -> Option<(&'a str,
     }
 }
 
-/// The number that this option is given, or the default.
-#[tactic(auto, using(crate::proofs::WordLemmas::spelled))]
-pub fn number_or(default: u32, name: &str, arguments: &[String]) -> Option<u32>
-    ensures { IfSome result (λ number. IsSpelledOr default (value_of name.now (texts arguments.now)) number) }
-{
-    match value_of(name, arguments) {
-        Some(text) => number_in(text),
-        None => Some(default),
-    }
-}
-
-/// The same, if it isn't 0.
-pub fn limit_or(default: u32, name: &str, arguments: &[String]) -> Option<u32>
-    ensures spelled { IfSome result (λ number. IsSpelledOr default (value_of name.now (texts arguments.now)) number) }
-    ensures some { IfSome result (λ number. 1 ≤ number) }
-{
-    match number_or(default, name, arguments) {
-        Some(number) if number > 0 => Some(number),
-        _ => None,
-    }
-}
-
 /// The number that this option is given, if it is there; None for a number that
 /// is 0.
 #[tactic(auto, using(crate::proofs::WordLemmas::counted))]
@@ -284,52 +260,5 @@ pub fn number_in(text: &str) -> Option<u32>
     match text.parse::<i64>() {
         Ok(number) => u32::try_from(number).ok(),
         Err(_) => None,
-    }
-}
-
-/// The number of 8 bits that this option is given, or the default.
-#[tactic(auto, using(crate::proofs::WordLemmas::spelled))]
-pub fn small_or(default: u8, name: &str, arguments: &[String]) -> Option<u8>
-    ensures { IfSome result (λ number. IsSpelledOr default (value_of name.now (texts arguments.now)) number) }
-{
-    match value_of(name, arguments) {
-        Some(text) => small_in(text),
-        None => Some(default),
-    }
-}
-
-fn small_in(text: &str) -> Option<u8>
-    ensures { IfSome result (λ number. Spells text.now number) }
-{
-    match text.parse::<i64>() {
-        Ok(number) => u8::try_from(number).ok(),
-        Err(_) => None,
-    }
-}
-
-/// The number of ranks that `--ranks` gives. The syntax has its range too.
-#[tactic(auto, using(crate::proofs::WordLemmas::given))]
-pub fn ranks_of(arguments: &[String]) -> Option<u8>
-    ensures given { IfSome result (λ ranks. IsSomeAnd (value_of (codes "ranks") (texts arguments.now)) (λ text. Spells text ranks)) }
-    ensures some { IfSome result (λ ranks. 1 ≤ ranks) }
-    ensures few { IfSome result (λ ranks. ranks ≤ most_ranks) }
-{
-    let Some(text) = value_of("ranks", arguments) else {
-        return None;
-    };
-    match small_in(text) {
-        Some(ranks) if 0 < ranks && usize::from(ranks) <= MOST_RANKS => Some(ranks),
-        _ => None,
-    }
-}
-
-/// The same, or the most that there may be without `--ranks`.
-pub fn ranks_or_most(arguments: &[String]) -> Option<u8>
-    ensures spelled { IfSome result (λ ranks. IsSpelledOr most_ranks (value_of (codes "ranks") (texts arguments.now)) ranks) }
-    ensures few { IfSome result (λ ranks. ranks ≤ most_ranks) }
-{
-    match small_or(MOST_RANKS as u8, "ranks", arguments) {
-        Some(ranks) if usize::from(ranks) <= MOST_RANKS => Some(ranks),
-        _ => None,
     }
 }

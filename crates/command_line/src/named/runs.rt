@@ -1,13 +1,15 @@
 //! A run that arguments name, and how it is traced.
-ghost use Rattle.std.specs.Prelude.{◌≡◌, IfSome};
-ghost use Rattle.command_line.specs.Jobs.{IsCostFormOf, IsRunOf, IsTraceFormOf, IsTraceOf};
+ghost use Rattle.std.specs.Prelude.{◌≡◌, IfSome, codes};
+ghost use Rattle.command_line.specs.Jobs.{IsCostFormOf, IsJobBy, IsRunOf, IsTraceFormOf};
 ghost use Rattle.command_line.specs.Words.{texts};
 
 use crate::costing::CostForm;
-use crate::job::RunJob;
+use crate::job::{Job, RunJob};
+use crate::range::RANKS_RANGE;
 use crate::scheduling::scheduling_of;
+use crate::syntax::{IDLE_RANGE, STEPS_RANGE};
 use crate::tracing::{TraceForm, TraceJob};
-use crate::words::{count_if, is_given, limit_or, one_file, ranks_of, value_of};
+use crate::words::{count_if, is_given, one_file, value_of};
 
 /// The run that the arguments ask for, with its costs in this form.
 pub fn run_of<'a>(command: &str, arguments: &'a [String], costs: CostForm) -> Option<RunJob<'a>>
@@ -22,10 +24,10 @@ pub fn run_of<'a>(command: &str, arguments: &'a [String], costs: CostForm) -> Op
         Some(scheduling),
         Some(program),
     ) = (
-        ranks_of(arguments),
+        RANKS_RANGE.small(value_of("ranks", arguments)),
         count_if("images-every", arguments),
-        limit_or(1000000, "idle", arguments),
-        limit_or(1000000, "steps", arguments),
+        IDLE_RANGE.range.number(value_of("idle", arguments)),
+        STEPS_RANGE.range.number(value_of("steps", arguments)),
         scheduling_of(arguments),
         one_file(command, arguments),
     ) else {
@@ -57,8 +59,9 @@ pub fn cost_form_of(arguments: &[String]) -> CostForm
 }
 
 /// The run that is to be traced, and the form.
-pub fn trace_of<'a>(command: &str, arguments: &'a [String]) -> Option<TraceJob<'a>>
-    ensures { IfSome result (λ trace. IsTraceOf command.now (texts arguments.entry.now) trace) }
+pub fn trace_of<'a>(command: &str, arguments: &'a [String]) -> Option<Job<'a>>
+    requires { command.now ≡ codes "trace" }
+    ensures { IfSome result (λ job. IsJobBy command.now (texts arguments.entry.now) job) }
 {
     let (Some(run), Some(form)) = (
         run_of(command, arguments, CostForm::Unasked),
@@ -66,7 +69,7 @@ pub fn trace_of<'a>(command: &str, arguments: &'a [String]) -> Option<TraceJob<'
     ) else {
         return None;
     };
-    Some(TraceJob { run, form })
+    Some(Job::Trace(TraceJob { run, form }))
 }
 
 // No run is drawn.

@@ -1,27 +1,30 @@
 //! A search that arguments name, or an outcome.
-ghost use Rattle.std.specs.Prelude.{IfSome};
-ghost use Rattle.command_line.specs.Jobs.{IsExploreFormOf, IsExploreOf, IsJudgeOf};
+ghost use Rattle.std.specs.Prelude.{◌≡◌, IfSome, codes};
+ghost use Rattle.command_line.specs.Jobs.{IsExploreFormOf, IsJobBy};
 ghost use Rattle.command_line.specs.Words.{texts};
 
-use crate::exploring::{ExploreForm, ExploreJob};
-use crate::judging::JudgeJob;
-use crate::words::{is_given, number_in, number_or, one_file, ranks_of, two_files, value_of};
+use crate::exploring::{ExploreForm, ExploreJob, RUNS_RANGE, STATES_RANGE, STEPS_RANGE};
+use crate::job::Job;
+use crate::judging::{self, JudgeJob};
+use crate::range::RANKS_RANGE;
+use crate::words::{is_given, number_in, one_file, two_files, value_of};
 
 /// The search that the arguments ask for.
-pub fn explore_of<'a>(command: &str, arguments: &'a [String]) -> Option<ExploreJob<'a>>
-    ensures { IfSome result (λ search. IsExploreOf command.now (texts arguments.entry.now) search) }
+pub fn explore_of<'a>(command: &str, arguments: &'a [String]) -> Option<Job<'a>>
+    requires { command.now ≡ codes "explore" }
+    ensures { IfSome result (λ job. IsJobBy command.now (texts arguments.entry.now) job) }
 {
     let (Some(ranks), Some(runs), Some(steps), Some(states), Some(form), Some(program)) = (
-        ranks_of(arguments),
-        number_or(100000, "runs", arguments),
-        number_or(100000, "steps", arguments),
-        number_or(1000000, "states", arguments),
+        RANKS_RANGE.small(value_of("ranks", arguments)),
+        RUNS_RANGE.range.number(value_of("runs", arguments)),
+        STEPS_RANGE.range.number(value_of("steps", arguments)),
+        STATES_RANGE.range.number(value_of("states", arguments)),
         form_of(arguments),
         one_file(command, arguments),
     ) else {
         return None;
     };
-    Some(ExploreJob {
+    Some(Job::Explore(ExploreJob {
         ranks,
         runs,
         steps,
@@ -29,7 +32,7 @@ pub fn explore_of<'a>(command: &str, arguments: &'a [String]) -> Option<ExploreJ
         form,
         synchronous: is_given("synchronous", arguments),
         program,
-    })
+    }))
 }
 
 fn form_of(arguments: &[String]) -> Option<ExploreForm>
@@ -51,21 +54,24 @@ fn form_of(arguments: &[String]) -> Option<ExploreForm>
 }
 
 /// The outcome that the arguments name.
-pub fn judge_of<'a>(command: &str, arguments: &'a [String]) -> Option<JudgeJob<'a>>
-    ensures { IfSome result (λ outcome. IsJudgeOf command.now (texts arguments.entry.now) outcome) }
+pub fn judge_of<'a>(command: &str, arguments: &'a [String]) -> Option<Job<'a>>
+    requires { command.now ≡ codes "judge" }
+    ensures { IfSome result (λ job. IsJobBy command.now (texts arguments.entry.now) job) }
 {
     let (Some((program, outcome)), Some(ranks), Some(steps)) = (
         two_files(command, arguments),
-        ranks_of(arguments),
-        number_or(1000000, "steps", arguments),
+        RANKS_RANGE.small(value_of("ranks", arguments)),
+        judging::STEPS_RANGE
+            .range
+            .number(value_of("steps", arguments)),
     ) else {
         return None;
     };
-    Some(JudgeJob {
+    Some(Job::Judge(JudgeJob {
         ranks,
         steps,
         trace: is_given("trace", arguments),
         program,
         outcome,
-    })
+    }))
 }

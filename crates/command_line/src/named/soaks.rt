@@ -3,38 +3,34 @@ ghost use Rattle.std.specs.Prelude.{IfSome};
 ghost use Rattle.command_line.specs.Jobs.{IsSoakOf, IsSoakScriptOf};
 ghost use Rattle.command_line.specs.Words.{texts};
 
+use crate::range::RANKS_RANGE;
 use crate::scheduling::scheduling_of;
-use crate::soaking::{SoakJob, SoakScriptJob};
-use crate::words::{
-    count_if, limit_or, number_in, number_or, one_file, ranks_of, small_or, value_of,
-};
-use limits::MOST_SCRIPT_LINES;
+use crate::soaking::{LINES_RANGE, RUNS_RANGE, SEED_RANGE, SoakJob, SoakScriptJob};
+use crate::syntax::{IDLE_RANGE, STEPS_RANGE};
+use crate::words::{count_if, number_in, one_file, value_of};
 
 /// The runs that the arguments ask for.
 pub fn soak_of<'a>(command: &str, arguments: &'a [String]) -> Option<SoakJob<'a>>
     ensures { IfSome result (λ runs. IsSoakOf command.now (texts arguments.entry.now) runs) }
 {
     let (Some(ranks), Some(runs), Some(seed), Some(kills), Some(images)) = (
-        ranks_of(arguments),
-        number_or(100, "runs", arguments),
-        number_or(1, "seed", arguments),
-        small_or(2, "kills", arguments),
-        small_or(2, "images", arguments),
+        RANKS_RANGE.small(value_of("ranks", arguments)),
+        RUNS_RANGE.range.number(value_of("runs", arguments)),
+        SEED_RANGE.range.number(value_of("seed", arguments)),
+        LINES_RANGE.range.small(value_of("kills", arguments)),
+        LINES_RANGE.range.small(value_of("images", arguments)),
     ) else {
         return None;
     };
     let (Some(images_every), Some(idle), Some(steps), Some(scheduling), Some(program)) = (
         count_if("images-every", arguments),
-        limit_or(1000000, "idle", arguments),
-        limit_or(1000000, "steps", arguments),
+        IDLE_RANGE.range.number(value_of("idle", arguments)),
+        STEPS_RANGE.range.number(value_of("steps", arguments)),
         scheduling_of(arguments),
         one_file(command, arguments),
     ) else {
         return None;
     };
-    if usize::from(kills) + usize::from(images) > MOST_SCRIPT_LINES {
-        return None;
-    }
     Some(SoakJob {
         ranks,
         runs,

@@ -3,9 +3,10 @@ ghost use Rattle.std.specs.Prelude.{IfSome};
 ghost use Rattle.command_line.specs.Jobs.{IsFinishOf, IsWorldOf};
 ghost use Rattle.command_line.specs.Words.{texts};
 
-use crate::catching_up::FinishJob;
+use crate::catching_up::{FinishJob, STEPS_RANGE};
 use crate::job::WorldJob;
-use crate::words::{limit_or, ranks_of, two_files};
+use crate::range::RANKS_RANGE;
+use crate::words::{two_files, value_of};
 
 /// The world that the arguments ask for.
 pub fn world_of<'a>(command: &str, arguments: &'a [String]) -> Option<WorldJob<'a>>
@@ -13,7 +14,7 @@ pub fn world_of<'a>(command: &str, arguments: &'a [String]) -> Option<WorldJob<'
 {
     let (Some((program, events)), Some(ranks)) = (
         two_files(command, arguments),
-        ranks_of(arguments),
+        RANKS_RANGE.small(value_of("ranks", arguments)),
     ) else {
         return None;
     };
@@ -30,7 +31,7 @@ pub fn finish_of<'a>(command: &str, arguments: &'a [String]) -> Option<FinishJob
 {
     let (Some(world), Some(steps)) = (
         world_of(command, arguments),
-        limit_or(100000, "steps", arguments),
+        STEPS_RANGE.range.number(value_of("steps", arguments)),
     ) else {
         return None;
     };
