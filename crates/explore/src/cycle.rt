@@ -114,8 +114,8 @@ fn go_further(alloc: Heap, path: &mut Path<'_>, rank: u8) -> Result<bool, AllocE
 {
     let left = path.left[usize::from(rank)];
     let made = go_on(&mut path.sim, rank, left)?;
-    path.left[usize::from(rank)] = left - made;
-    if made > 0 {
+    path.left[usize::from(rank)] = left - made.count;
+    if made.acted || made.count > 0 {
         return Ok(true);
     }
     if left == 0 {
