@@ -2,6 +2,7 @@
 ghost use Rattle.std.specs.Prelude.{◌≡◌, ◌<◌, ◌-◌, IfOk, IfSome, Ok, Some, [], length, slice_index_or};
 ghost use Rattle.rank_language.specs.Seen.{operand_of, placed_of};
 ghost use Rattle.rank_language.specs.Program.{IsWithin};
+ghost use Rattle.rank_machine.specs.Computed.{valued};
 ghost use Rattle.rank_machine.specs.Values.{value, read, rank_in};
 ghost use Rattle.rank_machine.specs.States.{item_value};
 
@@ -9,6 +10,20 @@ use crate::fault::MachineFault;
 use crate::operate::{negated, operated};
 use crate::store::Store;
 use rank_language::{Expression, Operand, Reading};
+
+// The value, or none and its fault.
+#[inline(always)]
+fn value_or(computed: Result<i64, MachineFault>, fault: &mut MachineFault) -> Option<i64>
+    ensures { valued result fault.new ≡ computed }
+{
+    match computed {
+        Ok(value) => Some(value),
+        Err(found) => {
+            *fault = found;
+            None
+        }
+    }
+}
 
 impl Store {
     /// The expression's value; operands go from left to right, and the first fault stands. A number
@@ -20,11 +35,13 @@ impl Store {
     {
         match self.leaf(expression) {
             Some(value) => Ok(value),
-            // (a fault as a value of its own, so that the first arm's stays in a register)
-            None => match self.computed(expression) {
-                Ok(value) => Ok(value),
-                Err(fault) => Err(fault),
-            },
+            None => {
+                let mut fault = MachineFault::Overflow;
+                match self.computed(expression, &mut fault) {
+                    Some(value) => Ok(value),
+                    None => Err(fault),
+                }
+            }
         }
     }
 
@@ -57,36 +74,40 @@ impl Store {
         }
     }
 
-    // The value of any expression.
-    fn computed(&self, expression: &Expression) -> Result<i64, MachineFault>
+    // The value of any expression, or none and its fault. So a value is answered in registers.
+    fn computed(&self, expression: &Expression, fault: &mut MachineFault) -> Option<i64>
         requires { IsWithin (length self.now.variables) (length self.now.arrays) (placed_of expression.now) }
-        ensures { result ≡ value self.now (placed_of expression.now) }
+        ensures { valued result fault.new ≡ value self.now (placed_of expression.now) }
     {
         match expression {
-            Expression::Number(number) => Ok(*number),
-            Expression::Variable(place) => Ok(self.variables[*place]),
+            Expression::Number(number) => Some(*number),
+            Expression::Variable(place) => Some(self.variables[*place]),
             Expression::Item(place, index) => {
                 let index = match self.leaf(index) {
                     Some(value) => value,
-                    None => self.computed(index)?,
+                    None => self.computed(index, fault)?,
                 };
-                self.arrays[*place].item_at(index)
+                value_or(self.arrays[*place].item_at(index), fault)
             }
-            Expression::Reading(reading) => Ok(self.read(*reading)),
-            Expression::Negation(operand) => negated(self.computed(operand)?),
+            Expression::Reading(reading) => Some(self.read(*reading)),
+            Expression::Negation(operand) => {
+                let operand = self.computed(operand, fault)?;
+                value_or(negated(operand), fault)
+            }
             Expression::Operation(operator, left, right) => {
                 let left = match self.leaf(left) {
                     Some(value) => value,
-                    None => self.computed(left)?,
+                    None => self.computed(left, fault)?,
                 };
                 let right = match self.leaf(right) {
                     Some(value) => value,
-                    None => self.computed(right)?,
+                    None => self.computed(right, fault)?,
                 };
-                operated(*operator, left, right)
+                value_or(operated(*operator, left, right), fault)
             }
             Expression::Simple(operator, place, right) => {
-                operated(*operator, self.variables[*place], self.operand(*right))
+                let right = self.operand(*right);
+                value_or(operated(*operator, self.variables[*place], right), fault)
             }
         }
     }
