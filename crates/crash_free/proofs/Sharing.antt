@@ -45,70 +45,7 @@ statement_sync : IsSync Statement.the_row
 statement_sync = variants_sync Statement.enum (search (expression_sync, payload_sync, pattern_sync, buffer_sync, collective_sync, crosses, sendable) depth 60)
 
 compact_sync : IsSync Compact.the_row
-compact_sync = variants_sync Compact.enum (
-  tt,
-  (
-    tt,
-    (
-      search (crosses, sendable) depth 60,
-      (
-        search (crosses, sendable) depth 60,
-        (
-          search (crosses, sendable) depth 60,
-          (
-            search (crosses, sendable) depth 60,
-            (
-              search (crosses, sendable) depth 60,
-              (
-                search (crosses, sendable) depth 60,
-                (
-                  search (crosses, sendable) depth 60,
-                  (
-                    search (crosses, sendable) depth 60,
-                    (
-                      search (crosses, sendable) depth 60,
-                      (
-                        search (crosses, sendable) depth 60,
-                        (
-                          search (crosses, sendable) depth 60,
-                          (
-                            search (crosses, sendable) depth 60,
-                            (
-                              search (crosses, sendable) depth 60,
-                              (
-                                search (crosses, sendable) depth 60,
-                                (
-                                  search (crosses, sendable) depth 60,
-                                  (
-                                    search (crosses, sendable) depth 60,
-                                    (
-                                      search (crosses, sendable) depth 60,
-                                      (
-                                        search (crosses, sendable) depth 60,
-                                        (
-                                          search (crosses, sendable) depth 60,
-                                          tt,
-                                        ),
-                                      ),
-                                    ),
-                                  ),
-                                ),
-                              ),
-                            ),
-                          ),
-                        ),
-                      ),
-                    ),
-                  ),
-                ),
-              ),
-            ),
-          ),
-        ),
-      ),
-    ),
-  ),
-)
+compact_sync = variants_sync Compact.enum (tt, (tt, (search (crosses, sendable) depth 60, (search (crosses, sendable) depth 60, (search (crosses, sendable) depth 60, (search (crosses, sendable) depth 60, (search (crosses, sendable) depth 60, (search (crosses, sendable) depth 60, (search (crosses, sendable) depth 60, (search (crosses, sendable) depth 60, (search (crosses, sendable) depth 60, (search (crosses, sendable) depth 60, (search (crosses, sendable) depth 60, (search (crosses, sendable) depth 60, (search (crosses, sendable) depth 60, (search (crosses, sendable) depth 60, (search (crosses, sendable) depth 60, (search (crosses, sendable) depth 60, (search (crosses, sendable) depth 60, (search (crosses, sendable) depth 60, (search (crosses, sendable) depth 60, (search (crosses, sendable) depth 60, (search (crosses, sendable) depth 60, (search (crosses, sendable) depth 60, (search (crosses, sendable) depth 60, (search (crosses, sendable) depth 60, (search (crosses, sendable) depth 60, (search (crosses, sendable) depth 60, (search (crosses, sendable) depth 60, (search (crosses, sendable) depth 60, tt))))))))))))))))))))))))))))))
 
 program_sync : IsSync Program.the_row
 program_sync = search (statement_sync, name_sync, array_sync, compact_sync, crosses, sendable) depth 60

@@ -1,9 +1,9 @@
 -- What a statement's compact form says of its line.
 use Rattle.std.specs.Prelude.{◌≡◌, ◌+◌, List, [], ◌∷◌, length, Option, Some, None, IfSome}
-use Rattle.rank_text.specs.declared.grammar.token.Operator.TheVariants.{Add, Subtract, Equal, NotEqual, Less, LessEqual, Greater, GreaterEqual}
+use Rattle.rank_text.specs.declared.grammar.token.Operator.TheVariants.{Add, Subtract, Multiply, Divide, Remainder, Equal, NotEqual, Less, LessEqual, Greater, GreaterEqual}
 use Rattle.rank_language.specs.declared.compact.Compact.{Compact}
 use Rattle.rank_language.specs.declared.compact.Compact.TheVariants as compact
-use Rattle.rank_language.specs.Placed.{number, variable, operation, declare, declare_array, assign}
+use Rattle.rank_language.specs.Placed.{number, variable, item, operation, declare, declare_array, assign}
 use Rattle.rank_language.specs.Placed.{assign_item, send, receive, probe, try_probe, print, collect}
 use Rattle.rank_language.specs.Correct.{IsProgram}
 use Rattle.rank_language.specs.Program.{ProgramValue}
@@ -39,6 +39,15 @@ compact_line (compact.AddNumber p a n) = Some (simple_line (assign p (operation 
 compact_line (compact.AddVariable p a b) = Some (simple_line (assign p (operation Add (variable a) (variable b))))
 compact_line (compact.SubtractNumber p a n) = Some (simple_line (assign p (operation Subtract (variable a) (number n))))
 compact_line (compact.SubtractVariable p a b) = Some (simple_line (assign p (operation Subtract (variable a) (variable b))))
+compact_line (compact.MultiplyNumber p a n) = Some (simple_line (assign p (operation Multiply (variable a) (number n))))
+compact_line (compact.MultiplyVariable p a b) = Some (simple_line (assign p (operation Multiply (variable a) (variable b))))
+compact_line (compact.DivideNumber p a n) = Some (simple_line (assign p (operation Divide (variable a) (number n))))
+compact_line (compact.DivideVariable p a b) = Some (simple_line (assign p (operation Divide (variable a) (variable b))))
+compact_line (compact.RemainderNumber p a n) = Some (simple_line (assign p (operation Remainder (variable a) (number n))))
+compact_line (compact.RemainderVariable p a b) = Some (simple_line (assign p (operation Remainder (variable a) (variable b))))
+compact_line (compact.Item p a i) = Some (simple_line (assign p (item a (variable i))))
+compact_line (compact.SetItemNumber a i n) = Some (simple_line (assign_item a (variable i) (number n)))
+compact_line (compact.SetItemVariable a i b) = Some (simple_line (assign_item a (variable i) (variable b)))
 compact_line (compact.EqualNumber a n q) = Some (if_line (operation Equal (variable a) (number n)) q)
 compact_line (compact.EqualVariable a b q) = Some (if_line (operation Equal (variable a) (variable b)) q)
 compact_line (compact.NotEqualNumber a n q) = Some (if_line (operation NotEqual (variable a) (number n)) q)

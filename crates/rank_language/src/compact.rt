@@ -3,7 +3,7 @@ ghost use Rattle.std.specs.Prelude.{◌≡◌, ◌+◌, IfOk, IfSome, length, ma
 ghost use Rattle.rank_language.specs.Block.{if_line, simple_line};
 ghost use Rattle.rank_language.specs.Compact.{compact_line, own_line, AreCompact};
 ghost use Rattle.rank_language.specs.Seen.{line_of, operand_of, placed_of};
-ghost use Rattle.rank_language.specs.Placed.{assign, number, operation, variable};
+ghost use Rattle.rank_language.specs.Placed.{assign, assign_item, item, number, operation, variable};
 
 use crate::expression::{Expression, Operand};
 use crate::statement::Statement;
@@ -13,8 +13,8 @@ use std::alloc::AllocError;
 
 /// A statement as a machine makes it most quickly: by one look at what it is.
 ///
-/// Places are those of variables. A test has two operands, and the position that follows where it
-/// doesn't hold; one that does leads to the next position.
+/// Places are those of variables, or of arrays where it says so. A test has two operands, and the
+/// position that follows where it doesn't hold; one that does leads to the next position.
 #[derive(Drop)]
 pub enum Compact {
     /// Any other statement, or none.
@@ -31,6 +31,17 @@ pub enum Compact {
     AddVariable(usize, usize, usize),
     SubtractNumber(usize, usize, i64),
     SubtractVariable(usize, usize, usize),
+    MultiplyNumber(usize, usize, i64),
+    MultiplyVariable(usize, usize, usize),
+    DivideNumber(usize, usize, i64),
+    DivideVariable(usize, usize, usize),
+    RemainderNumber(usize, usize, i64),
+    RemainderVariable(usize, usize, usize),
+    /// A variable, and the array and the index of the item that it gets.
+    Item(usize, usize, usize),
+    /// An array, the index of an item, and the item's new value.
+    SetItemNumber(usize, usize, i64),
+    SetItemVariable(usize, usize, usize),
     EqualNumber(usize, i64, usize),
     EqualVariable(usize, usize, usize),
     NotEqualNumber(usize, i64, usize),
@@ -94,7 +105,7 @@ fn test_of(condition: &Expression, otherwise: usize) -> Compact
     }
 }
 
-// A variable gets the value of a sum or a difference.
+// A variable gets the value of an operation, unless it compares.
 fn operation_to(place: usize, operator: Operator, left: usize, right: Operand) -> Compact
     ensures { IfSome (compact_line result) (λ l. l ≡ simple_line (assign place (operation operator (variable left) (operand_of right)))) }
 {
@@ -105,9 +116,45 @@ fn operation_to(place: usize, operator: Operator, left: usize, right: Operand) -
         (Operator::Subtract, Operand::Variable(right)) => {
             Compact::SubtractVariable(place, left, right)
         }
-        (Operator::Multiply | Operator::Divide | Operator::Remainder, _) => Compact::Other,
+        (Operator::Multiply, Operand::Number(right)) => Compact::MultiplyNumber(place, left, right),
+        (Operator::Multiply, Operand::Variable(right)) => {
+            Compact::MultiplyVariable(place, left, right)
+        }
+        (Operator::Divide, Operand::Number(right)) => Compact::DivideNumber(place, left, right),
+        (Operator::Divide, Operand::Variable(right)) => Compact::DivideVariable(place, left, right),
+        (Operator::Remainder, Operand::Number(right)) => {
+            Compact::RemainderNumber(place, left, right)
+        }
+        (Operator::Remainder, Operand::Variable(right)) => {
+            Compact::RemainderVariable(place, left, right)
+        }
         (Operator::Equal | Operator::NotEqual | Operator::Less, _) => Compact::Other,
         (Operator::LessEqual | Operator::Greater | Operator::GreaterEqual, _) => Compact::Other,
+    }
+}
+
+// A variable gets an item of an array.
+fn item_to(place: usize, array: usize, index: &Expression) -> Compact
+    ensures { IfSome (compact_line result) (λ l. l ≡ simple_line (assign place (item array (placed_of index.now)))) }
+{
+    let Expression::Variable(index) = index else {
+        return Compact::Other;
+    };
+    Compact::Item(place, array, *index)
+}
+
+// An item of an array gets a value.
+fn item_assignment_of(array: usize, index: &Expression, value: &Expression) -> Compact
+    ensures { IfSome (compact_line result) (λ l. l ≡ simple_line (assign_item array (placed_of index.now) (placed_of value.now))) }
+{
+    let Expression::Variable(index) = index else {
+        return Compact::Other;
+    };
+    match value {
+        Expression::Number(number) => Compact::SetItemNumber(array, *index, *number),
+        Expression::Variable(from) => Compact::SetItemVariable(array, *index, *from),
+        Expression::Item(_, _) | Expression::Reading(_) | Expression::Negation(_) => Compact::Other,
+        Expression::Operation(_, _, _) | Expression::Simple(_, _, _) => Compact::Other,
     }
 }
 
@@ -119,7 +166,8 @@ fn assignment_of(place: usize, value: &Expression) -> Compact
         Expression::Number(number) => Compact::SetNumber(place, *number),
         Expression::Variable(from) => Compact::SetVariable(place, *from),
         Expression::Simple(operator, left, right) => operation_to(place, *operator, *left, *right),
-        Expression::Item(_, _) | Expression::Reading(_) | Expression::Negation(_) => Compact::Other,
+        Expression::Item(array, index) => item_to(place, *array, index),
+        Expression::Reading(_) | Expression::Negation(_) => Compact::Other,
         Expression::Operation(_, _, _) => Compact::Other,
     }
 }
@@ -135,8 +183,8 @@ fn compact_of(statement: &Statement) -> Compact
         Statement::If(condition, otherwise) | Statement::While(condition, otherwise) => {
             test_of(condition, *otherwise)
         }
-        Statement::AssignItem(_, _, _) | Statement::Print(_) | Statement::Collect(_) =>
-            Compact::Other,
+        Statement::AssignItem(array, index, value) => item_assignment_of(*array, index, value),
+        Statement::Print(_) | Statement::Collect(_) => Compact::Other,
         Statement::Send { .. } | Statement::Receive { .. } => Compact::Other,
         Statement::Probe { .. } | Statement::TryProbe { .. } => Compact::Other,
     }

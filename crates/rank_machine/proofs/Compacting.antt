@@ -141,15 +141,15 @@ pub compact_made : (m : MachineValue) (x o : Option Line) (q : ℕ) (s : Store) 
     → IfSome x (λ y. option_map own_line o ≡ Some y) → ((l : Line) → o ≡ Some l → Leads (remaining (block_of m.program)) m.position l)
     → ((l : Line) → o ≡ Some l → (t : Bool) → next_position l m.position t ≤ size (block_of m.program))
     → next_after m.store x m.position ≡ Some q → s ≡ store_after m.store x
-    → length s.variables ≡ length m.store.variables → s.arrays ≡ m.store.arrays → s.rank < s.size
-    → IsMade m (record m { position = q; store = s })
-compact_made m None o q s h fault there spells leads within next stored variables arrays rank = absurd cc
-compact_made m (Some y) None q s h fault there spells leads within next stored variables arrays rank = absurd cc
-compact_made m (Some y) (Some l) q s h fault there spells leads within next stored variables arrays rank =
+    → length s.variables ≡ length m.store.variables → length s.arrays ≡ length m.store.arrays → map length s.arrays ≡ map length m.store.arrays
+    → s.rank < s.size → IsMade m (record m { position = q; store = s })
+compact_made m None o q s h fault there spells leads within next stored variables arrays lengths rank = absurd cc
+compact_made m (Some y) None q s h fault there spells leads within next stored variables arrays lengths rank = absurd cc
+compact_made m (Some y) (Some l) q s h fault there spells leads within next stored variables arrays lengths rank =
     let e : own_line l ≡ y = cc in
     let own : own_next m.store l m.position ≡ Some q = sym (own_leads m.store l m.position) ∙ ap (λ z. own_next m.store z m.position) e ∙ next in
     let kept : s ≡ line_store m.store l = stored ∙ ap (line_store m.store) (sym e) ∙ own_stores m.store l in
-    line_made m l q s h fault there (leads l refl) (within l refl) own kept variables (ap length arrays) (ap (map length) arrays) rank
+    line_made m l q s h fault there (leads l refl) (within l refl) own kept variables arrays lengths rank
 
 -- the same of whatever a line that was looked up leads to
 pub statement_made : (m : MachineValue) (l : Line) (o : Option ℕ) (s : Store) → IsMachine m → m.fault ≡ None → line_at m ≡ Some l

@@ -24,7 +24,7 @@ returns-in-Some-clause-made c =
     let f = c.follow_compact.ensures in
     compact_made (standing c.args.program.now c.args.position c.args.self.now) (compact_line c.compact-compact.result.now)
     (slice_get c.args.program.now.statements c.args.position) _ c.follow_compact.new.self c.requires.machine refl refl k.line k.there k.within
-    (sym f.next ∙ c.in-Some.is) f.stored f.variables f.arrays f.rank
+    (sym f.next ∙ c.in-Some.is) f.stored f.variables f.arrays f.lengths f.rank
 
 pub follow_statement-requires : goal.follow_statement-requires
 follow_statement-requires c =
