@@ -4,7 +4,6 @@ ghost use Rattle.std.specs.Bool.{OnTrue, OnFalse};
 ghost use Rattle.limits.specs.Limits.{most_ranks};
 ghost use Rattle.bare_world.specs.Seats.{at_work, IfLive, IsNew, IsNotAtWork, IsNotInReplay};
 ghost use Rattle.bare_world.specs.View.{shown_of};
-ghost use Rattle.bare_world.specs.Measures.{HasLines};
 ghost use Rattle.bare_world.specs.Stocked.{IsSeatStocked};
 
 mod calling;
@@ -119,16 +118,6 @@ impl<'p> Seat<'p> {
             Some(Phase::Running(running)) => Some(running),
             Some(Phase::Replaying(_) | Phase::Down(_)) | None => None,
         }
-    }
-
-    /// A law, for proofs alone: the lines of a live rank's program are those of
-    /// its tree.
-    #[tactic(auto, using(crate::proofs::Calls::SeatStays::lines_of))]
-    pub fn law_lines(&self)
-        ensures { IfSome self.now.live HasLines }
-    {
-        self.program.law_lines();
-        let _occupant = &self.occupant;
     }
 
     /// A law, for proofs alone: the lines of the program are those of its tree,

@@ -6,7 +6,6 @@ ghost use Rattle.bare_world.specs.Headline.{IsOpened};
 ghost use Rattle.bare_world.specs.World.{Live};
 ghost use Rattle.bare_world.specs.Seats.{at_work, AtRank, IsNew, IsNotAtWork, IsNotInReplay, SeatValue};
 ghost use Rattle.bare_world.specs.View.{shown_of};
-ghost use Rattle.bare_world.specs.Measures.{HasLines};
 ghost use Rattle.bare_world.specs.Stocked.{AreStocked};
 
 mod copying;
@@ -103,15 +102,6 @@ impl<'p> Seats<'p> {
         ensures none { IfNone result (IsSomeAnd (slice_get self.now.ranks rank) IsNotAtWork) }
     {
         self.seats[usize::from(rank)].running()
-    }
-
-    /// A law, for proofs alone: the lines of a live rank's program are those of
-    /// its tree.
-    pub fn law_lines(&self, rank: u8)
-        requires { rank < length self.now.ranks }
-        ensures { IsSomeAnd (slice_get self.now.ranks rank) (λ x. IfSome x HasLines) }
-    {
-        self.seats[usize::from(rank)].law_lines();
     }
 
     /// A law, for proofs alone: the lines of the program are those of its tree,

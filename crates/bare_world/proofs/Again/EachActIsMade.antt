@@ -6,6 +6,8 @@ use Rattle.std.proofs.lemmas.Bool.{cases_eq}
 use Rattle.std.proofs.lemmas.List.{length-set, length_push, take-append-drop}
 use Rattle.std.proofs.lemmas.Grind.{get_or_default_zero}
 use Rattle.limits.specs.Limits.{greatest_clock}
+use Rattle.rank_language.specs.Block.{lines_at}
+use Rattle.rank_language.specs.Program.{ProgramValue, block_of}
 use Rattle.rank_machine.specs.Acts.{Act}
 use Rattle.rank_machine.specs.Machine.{MachineValue, state_of}
 use Rattle.crash_free.specs.Runs.{Passed, history, sent, looked_up}
@@ -19,6 +21,7 @@ use Rattle.bare_world.specs.World.{Live, WorldValue, size, IsLive}
 use Rattle.bare_world.specs.View.{shown_of, IsView}
 use Rattle.crash_free.specs.Points.{first_acts}
 use Rattle.bare_world.specs.RunIndex.{IsNext}
+use Rattle.bare_world.specs.Stocked.{IsStocked}
 use Rattle.bare_world.specs.Follows.{Follows}
 use Rattle.bare_world.specs.Measures.{StopsAfter, steps_of, RankNears, HasLines}
 use Rattle.bare_world.specs.Driven.{Advanced, Flushed, Emptied, MadeAt, IsNear, IsCounted, Ready, listed}
@@ -140,6 +143,10 @@ next_ahead w k r count view m next is lr seen ready low same =
     let parts = run_parts w.run k (record { rank = r; act = next.0 }) next.1 in
     let there = act_ahead w (first_acts k w.run) (take (length w.run - (k + 1)) w.run) r next.0 v.0 ready parts v.1 (omega (arith, low, shown, is)) in
     (there.0, subst (λ z. StopsAfter there.0 (state_of z)) (sym (same v.0 v.1)) there.1)
+
+-- the lines of a live rank's program are those of its tree, as those of the world's program are
+pub stocked_lines : (w : WorldValue) (r : ℕ) (v : Live) → IsStocked w → IsLive w r v → HasLines v
+stocked_lines w r v t live = subst (λ (z : ProgramValue). z.statements ≡ lines_at 0 (block_of z)) (sym (t.run r v live)) t.lines
 
 -- a rank that is behind has its act ahead, and makes fewer steps of its own than these before it
 pub nears_first : (w : WorldValue) (r length_before steps : ℕ) (m : MachineValue) → StopsAfter steps (state_of m)

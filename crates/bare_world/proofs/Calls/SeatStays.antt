@@ -11,7 +11,7 @@ use Rattle.matching.specs.PacketValue as packet
 use Rattle.event_logger.specs.Sequential.Event.{EventValue}
 use Rattle.event_logger.specs.declared.sequential.kind.Kind.{Kind}
 use Rattle.event_logger.specs.declared.sequential.kind.Kind.TheVariants as kind
-use Rattle.std.specs.Prelude.{IfSome, OnOk, OnErr, MatchBool, option_and_then, if◌then◌else◌}
+use Rattle.std.specs.Prelude.{OnOk, OnErr, MatchBool, option_and_then, if◌then◌else◌}
 use Rattle.rank_language.specs.Block.{lines_at}
 use Rattle.rank_language.specs.Program.{ProgramValue, block_of}
 use Rattle.rank_machine.specs.declared.want.Want.{Want}
@@ -32,7 +32,6 @@ use Rattle.rank_node.specs.Frames.{after_frame, with_inbox}
 use Rattle.rank_node.specs.declared.frame.Frame.{Frame}
 use Rattle.rank_node.specs.declared.frame.Frame.TheVariants as frame
 use Rattle.rank_node.specs.Phases.{arrived_in, settled_in, stable_in}
-use Rattle.bare_world.specs.Measures.{HasLines}
 use Rattle.bare_world.specs.Stocked.{IsSeatStocked}
 use Rattle.bare_world.specs.Seat.{live_of, seat_of, shelf_of, HasLeft, IsKept, IsOf, IsOwn, IsSeated, IsStanding, Phase}
 use Rattle.bare_world.specs.Seats.{in_replay, IsRestarted}
@@ -273,18 +272,6 @@ replayed_then p r n old new v x seated was stable steps is =
 
     after : IsOf p r n x.node
     after = of_replay p r n v x before.left stable steps before.standing
-
--- ---- lines
-
--- the program of the rank at a seat has its lines where that of the seat has
-pub lines_of : (program : ProgramValue) (r n : ℕ) (occupant : Option Phase) → IsSeated program r n occupant → program.statements ≡ lines_at 0 (block_of program)
-    → IfSome (option_and_then live_of occupant) HasLines
-lines_of program r n None k e = absurd k
-lines_of program r n (Some (Running node)) k e =
-    subst (λ (z : ProgramValue). z.statements ≡ lines_at 0 (block_of z)) (sym k.standing.same_program) e
-lines_of program r n (Some (Replaying replay)) k e =
-    subst (λ (z : ProgramValue). z.statements ≡ lines_at 0 (block_of z)) (sym k.standing.same_program) e
-lines_of program r n (Some (Down stable)) k e = tt
 
 -- ---- what is at hand
 

@@ -1,6 +1,6 @@
 -- What a step comes to, of a rank at work and of one that replays.
 use Rattle.std.proofs.Common.{◌≡◌, ◌≢◌, ℕ, ℤ, ◌+◌, ◌<◌, ◌≤◌, inl, inr, Bool, true, false, List, [], ◌∷◌, Option, Some, None, Ok, Err, length, refl, sym}
-use Rattle.std.proofs.Common.{ap, subst, ◌∙◌, slice_get, slice_set, is_some, IsSome, IsSomeAnd, if◌then◌else◌}
+use Rattle.std.proofs.Common.{ap, subst, ◌∙◌, slice_get, slice_set, IsSome, IsSomeAnd, if◌then◌else◌}
 use Rattle.matching.specs.declared.packet.Context.{Context}
 use Rattle.event_logger.specs.Sequential.Event.{EventValue}
 use Rattle.matching.specs.declared.line.Line.{Line}
@@ -9,7 +9,8 @@ use Rattle.rank_machine.specs.Acts.{Act, sends, prints}
 use Rattle.rank_machine.specs.declared.want.Want.{Want}
 use Rattle.rank_machine.specs.declared.want.Want.TheVariants as want
 use Rattle.rank_machine.specs.Wants.{payload}
-use Rattle.rank_machine.specs.Machine.{machine_want, state_of}
+use Rattle.rank_machine.specs.declared.want.Wanted.{Wanted}
+use Rattle.rank_machine.specs.Machine.{machine_want, state_of, IsWantedBy}
 use Rattle.rank_node.specs.declared.fault.NodeFault.{NodeFault}
 use Rattle.rank_node.specs.declared.fault.NodeFault.TheVariants.{Replay}
 use Rattle.rank_node.specs.declared.turn.Turn.{Turn}
@@ -49,14 +50,8 @@ pub step_nowhere : (w : WorldValue) (r : ℕ) → size w ≤ r → Follows w (St
 step_nowhere w r past = (λ v live. absurd (none_live w r v past live), refl)
 
 -- a refusal is one
-some_refusal : (o : Option NodeFault) → is_some o ≡ true → o ≡ None → ⊥
-some_refusal None e z = absurd cc
-some_refusal (Some k) e z = cc
-
--- or it is none
-no_refusal : (o : Option NodeFault) → is_some o ≡ false → o ≡ None
-no_refusal None e = refl
-no_refusal (Some k) e = absurd cc
+some_refusal : (o : Option NodeFault) (k : NodeFault) → o ≡ Some k → o ≡ None → ⊥
+some_refusal o k e z = (let both : Some k ≡ None = sym e ∙ z in cc)
 
 -- a rank that is down makes no step
 pub step_down : (w : WorldValue) (r : ℕ) → IsSomeAnd (slice_get w.ranks r) IsNotAtWork → IsSomeAnd (slice_get w.ranks r) IsNotInReplay
@@ -64,19 +59,24 @@ pub step_down : (w : WorldValue) (r : ℕ) → IsSomeAnd (slice_get w.ranks r) I
 step_down w r h g = (λ v live. absurd (not_down w r v (is_then_down w r h g) live), refl)
 
 -- a step that is refused by name
-pub step_refused : (w : WorldValue) (r : ℕ) (x : Rank) → slice_get w.ranks r ≡ Some (at_work x) → is_some (refusal_of x) ≡ true
+pub step_refused : (w : WorldValue) (r : ℕ) (x : Rank) (k : NodeFault) → slice_get w.ranks r ≡ Some (at_work x) → refusal_of x ≡ Some k
     → Follows w (Step r) reply.Refused w
-step_refused w r x at e =
-    (λ v live. subst (λ z. (z.left ≡ []) × (refusal_of z.rank ≢ None)) (sym (same_live w r x v at live)) (refl, some_refusal (refusal_of x) e), refl)
+step_refused w r x k at e =
+    (λ v live. subst (λ z. (z.left ≡ []) × (refusal_of z.rank ≢ None)) (sym (same_live w r x v at live)) (refl, some_refusal (refusal_of x) k e), refl)
 
 -- a step that isn't
-pub step_allowed : (ranks : List (Option Live)) (r : ℕ) (x : Rank) → slice_get ranks r ≡ Some (at_work x) → is_some (refusal_of x) ≡ false
+pub step_allowed : (ranks : List (Option Live)) (r : ℕ) (x : Rank) → slice_get ranks r ≡ Some (at_work x) → refusal_of x ≡ None
     → AtRank ranks r (λ v. refusal_of v.rank ≡ None)
-step_allowed ranks r x at e = value_at ranks r x (λ v. refusal_of v.rank ≡ None) at (no_refusal (refusal_of x) e)
+step_allowed ranks r x at e = value_at ranks r x (λ v. refusal_of v.rank ≡ None) at e
+
+-- what was found of its machine
+pub step_found : (ranks : List (Option Live)) (r : ℕ) (x : Rank) (found : Wanted) → slice_get ranks r ≡ Some (at_work x) → IsWantedBy x.machine found
+    → AtRank ranks r (λ v. IsWantedBy v.rank.machine found)
+step_found ranks r x found at h = value_at ranks r x (λ v. IsWantedBy v.rank.machine found) at h
 
 -- a rank at work makes a step
 pub step_some : (w w' : WorldValue) (r : ℕ) (x : Rank) (t : Turn) → Stands w
-    → slice_get w.ranks r ≡ Some (at_work x) → is_some (refusal_of x) ≡ false
+    → slice_get w.ranks r ≡ Some (at_work x) → refusal_of x ≡ None
     → AtRank w.ranks r (λ v. (y : Option Live) × MakesStep w.lines w'.lines t v y × (w'.ranks ≡ slice_set w.ranks r y))
     → w'.run ≡ passed_at w.run r (x.clock + 1) (effect_at x (machine_want x.machine) (turn_of x))
     → w'.program ≡ w.program → w'.images ≡ w.images → w'.logger ≡ w.logger → w'.wires ≡ w.wires
@@ -97,7 +97,7 @@ step_some w w' r x t s at none step run program images logger wires = turn_cases
       before = record { rank = x; left = [] };
       live = at;
       running = refl;
-      allowed = no_refusal (refusal_of x) none;
+      allowed = none;
       machine = is.1.1.machine;
       steps = is.1.1.steps;
       answered = ap stepped is.1.0;
@@ -105,8 +105,8 @@ step_some w w' r x t s at none step run program images logger wires = turn_cases
     }
 
 -- where memory ends a step could happen
-pub step_possible : (w : WorldValue) (r : ℕ) (x : Rank) → slice_get w.ranks r ≡ Some (at_work x) → is_some (refusal_of x) ≡ false → CanNot w (Step r) → ⊥
-step_possible w r x at none cannot = (cannot (record { rank = x; left = [] }) at).1 (no_refusal (refusal_of x) none)
+pub step_possible : (w : WorldValue) (r : ℕ) (x : Rank) → slice_get w.ranks r ≡ Some (at_work x) → refusal_of x ≡ None → CanNot w (Step r) → ⊥
+step_possible w r x at none cannot = (cannot (record { rank = x; left = [] }) at).1 none
 
 -- a step with an effect takes memory: where nothing waits there is room
 passes_takes : (v : Rank) (act a : Act) (has : Bool) → has_room v.pending ≡ has
@@ -290,7 +290,7 @@ replay_takes ranks r h g = go (slice_get ranks r) h g
     go (Some (Some v)) h g = one v.rank v.left h g
 
 -- what a step of a rank at work comes to, and which steps take memory
-pub ruleset step_laws = (step_down, step_refused, step_some, step_allowed, step_possible, step_takes, pass_takes, takes_at, work_takes)
+pub ruleset step_laws = (step_down, step_refused, step_some, step_allowed, step_found, step_possible, step_takes, pass_takes, takes_at, work_takes)
 
 -- what a step of a rank that replays comes to, and which steps take memory
 pub ruleset replay_laws = (replay_fits, replay_some, replay_possible, replay_takes, step_takes)

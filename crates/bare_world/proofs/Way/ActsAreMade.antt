@@ -4,8 +4,6 @@ use Rattle.std.proofs.Common.{refl, sym, ap, subst, ◌∙◌, arith, add-one, t
 use Rattle.std.specs.Prelude.{IsSomeAnd}
 use Rattle.std.proofs.lemmas.Bool.{cases_lt}
 use Rattle.rank_machine.specs.States.{State}
-use Rattle.rank_language.specs.Block.{lines_at}
-use Rattle.rank_language.specs.Program.{ProgramValue, block_of}
 use Rattle.crash_free.specs.Runs.{Passed, history, IsRun}
 use Rattle.bare_world.specs.declared.event.WorldEvent.{WorldEvent}
 use Rattle.bare_world.specs.declared.event.WorldEvent.TheVariants.{Step}
@@ -17,14 +15,14 @@ use Rattle.bare_world.specs.RunIndex.{IsNext}
 use Rattle.bare_world.specs.Stands.{start_at}
 use Rattle.bare_world.specs.Onward.{Behind}
 use Rattle.bare_world.specs.Stocked.{IsStocked}
-use Rattle.bare_world.specs.Measures.{steps_of, HasLines}
+use Rattle.bare_world.specs.Measures.{steps_of}
 use Rattle.bare_world.specs.Driven.{Ready, MadeAt, IsNear, listed, Advanced}
 use Rattle.bare_world.proofs.Lists.Beginnings.{drop_some, next_of_drop}
 use Rattle.bare_world.proofs.Calls.RankOfEvent.{one_live}
 use Rattle.bare_world.proofs.Again.GoesOn.{behind}
 use Rattle.bare_world.proofs.Again.NextActIsMade.{at_act, ready_after}
 use Rattle.bare_world.proofs.Again.Calls.{advanced_none, advanced_more}
-use Rattle.bare_world.proofs.Again.EachActIsMade.{run_parts, one_more, step_next, near_made, made_before, next_ahead, nears_first, ready_at, make_first}
+use Rattle.bare_world.proofs.Again.EachActIsMade.{run_parts, one_more, step_next, near_made, made_before, next_ahead, nears_first, stocked_lines, ready_at, make_first}
 use Rattle.bare_world.proofs.Way.EventIsAnswered.{step_drive}
 use Rattle.bare_world.proofs.Way.AllIsDelivered.{Reach, flush_from}
 
@@ -107,9 +105,6 @@ make b y k r ready t next lr = go (cases_lt v.0.rank.clock (clock_of b.run k r))
     view : (view : View) × IsView b r view × (view.clock ≡ v.0.rank.clock)
     view = shown b r v.0 v.1
 
-    lines : (u : Live) → IsLive b r u → HasLines u
-    lines u live = subst (λ (z : ProgramValue). z.statements ≡ lines_at 0 (block_of z)) (sym (t.run r u live)) t.lines
-
     go : (v.0.rank.clock < clock_of b.run k r) ⊎ (clock_of b.run k r ≤ v.0.rank.clock) → Reach (λ c z. Advanced b y c z × MadeAt b.run k r c)
     go (inr done) =
         let e = view.2 in
@@ -121,7 +116,7 @@ make b y k r ready t next lr = go (cases_lt v.0.rank.clock (clock_of b.run k r))
         let j = next_ahead b k r (clock_of b.run k r) view.0 v.0.rank.machine next refl lr view.1 ready (omega (arith, low, e)) same in
         let bound = length y + 1 + steps_of j.0 v.0.rank.machine in
         steps_to (bound - length y + 1) b b y y k r bound next (advanced_none b y ready.is_world)
-        (inl (ready, nears_first b r (length y) j.0 v.0.rank.machine j.1 same lines)) t lr (omega arith)
+        (inl (ready, nears_first b r (length y) j.0 v.0.rank.machine j.1 same (λ u live. stocked_lines b r u t live))) t lr (omega arith)
 
 -- after the first k acts of a run comes one
 some_next : (C : List Passed) (k : ℕ) → k < length C → (p : Passed) × (first_acts (k + 1) C ≡ p ∷ first_acts k C)

@@ -2,6 +2,7 @@
 ghost use Rattle.std.specs.Prelude.{◌≡◌, ◌<◌, length, IfSome, IfNone};
 ghost use Rattle.std.specs.Bool.{OnTrue, OnFalse};
 ghost use Rattle.matching.specs.Inbox.{accepted_from};
+ghost use Rattle.rank_node.specs.Steps.{turn_of};
 ghost use Rattle.rank_node.specs.declared.fault.NodeFault.{NodeFault};
 ghost use Rattle.bare_world.specs.World.{size};
 ghost use Rattle.bare_world.specs.Finished.{is_idle};
@@ -35,9 +36,7 @@ impl<'p> BareWorld<'p> {
         ensures yes { OnTrue result (IsQuietAs self.now.run rank running.now) }
         ensures no { OnFalse result (IsQuietAs self.now.run rank running.now → ⊥) }
     {
-        running.is_settled()
-            && running.clock() as usize == self.run.count(rank)
-            && is_idle(running.turn())
+        running.is_settled() && running.clock() as usize == self.run.count(rank) && is_idle(running)
     }
 
     /// Whether all that was sent to a rank in the run was accepted in this inbox.
@@ -64,7 +63,7 @@ impl<'p> BareWorld<'p> {
         let Some(running) = self.seats.running(rank) else {
             return None;
         };
-        running.refusal()
+        running.forecast(running.wants()).err()
     }
 }
 
@@ -78,11 +77,12 @@ fn accepted_from(inbox: &Inbox, source: u8) -> usize
     }
 }
 
-fn is_idle(turn: Turn) -> bool
-    ensures { result ≡ is_idle turn }
+/// Whether a rank at work has no step to make, nor one that its gate holds up.
+fn is_idle(running: &Running<'_, MemoryShelf, ()>) -> bool
+    ensures { result ≡ is_idle (turn_of running.now) }
 {
-    match turn {
-        Turn::Blocked | Turn::Ended => true,
-        Turn::Moved | Turn::Held => false,
+    match running.forecast(running.wants()) {
+        Ok(Turn::Blocked | Turn::Ended) => true,
+        Ok(Turn::Moved | Turn::Held) | Err(_) => false,
     }
 }

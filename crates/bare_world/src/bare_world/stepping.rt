@@ -1,7 +1,7 @@
 //! Steps of the ranks at work.
 ghost use Rattle.std.specs.Prelude.{◌≡◌, ◌<◌, true, length, option_map, slice_get, IsSomeAnd, IfOk, OnErr};
 ghost use Rattle.crash_free.specs.Seen.{act_of};
-ghost use Rattle.rank_machine.specs.Machine.{machine_want};
+ghost use Rattle.rank_machine.specs.Machine.{machine_want, IsWantedBy};
 ghost use Rattle.rank_node.specs.Steps.{turn_of, takes_memory};
 ghost use Rattle.bare_world.specs.Follows.{effect_at, stepped};
 
@@ -10,7 +10,7 @@ use crate::reply::Reply;
 use checkpoint::MemoryShelf;
 use crash_free::Act;
 use limits::Heap;
-use rank_machine::Want;
+use rank_machine::{Want, Wanted};
 use rank_node::{Running, Turn};
 use std::alloc::AllocError;
 
@@ -55,13 +55,14 @@ impl<'p> BareWorld<'p> {
         let Some(running) = self.seats.running(rank) else {
             return Ok(Reply::Refused);
         };
-        if running.refusal().is_some() {
+        let wanted = running.wanted();
+        let Ok(foreseen) = running.forecast(wanted.want) else {
             return Ok(Reply::Refused);
-        }
+        };
         let clock = running.clock() as usize + 1;
-        let act = effect_of(self.alloc, running)?;
+        let act = effect_of(self.alloc, running, wanted, foreseen)?;
         let passed = self.pass(rank, clock, act)?;
-        let Ok(turn) = self.seats.step(rank, &mut self.console) else {
+        let Ok(turn) = self.seats.step(rank, &mut self.console, wanted) else {
             self.take_back(passed);
             return Err(AllocError);
         };
@@ -69,25 +70,36 @@ impl<'p> BareWorld<'p> {
     }
 }
 
-/// The act of a rank's next step, where others can see it at once: a send or
-/// a print.
+/// The act of a rank's next step, of which this was found, where others can see
+/// it at once: a send or a print.
 #[tactic(auto, using(crate::proofs::Calls::Steps::unmoved, crate::proofs::Calls::Steps::waits_behind, crate::proofs::Calls::Steps::send_takes))]
-fn effect_of(alloc: Heap, running: &Running<'_, MemoryShelf, ()>) -> Result<Option<Act>, AllocError>
+fn effect_of(
+    alloc: Heap,
+    running: &Running<'_, MemoryShelf, ()>,
+    wanted: Wanted,
+    turn: Turn,
+) -> Result<Option<Act>, AllocError>
+    requires wanted { IsWantedBy running.now.machine wanted }
+    requires turn { turn ≡ turn_of running.now }
     ensures effect { IfOk result (λ act. option_map act_of act ≡ effect_at running.now (machine_want running.now.machine) (turn_of running.now)) }
     ensures memory { OnErr result (takes_memory running.now ≡ true) }
 {
-    let Turn::Moved = running.turn() else {
+    let Turn::Moved = turn else {
         return Ok(None);
     };
     if !running.is_settled() {
         return Ok(None);
     }
-    match running.wants() {
+    match wanted.want {
         Want::Send { dest, context, tag } => Ok(Some(Act::Sends {
             dest,
             context,
             tag,
-            items: running.payload()?.as_slice().to_vec(alloc)?,
+            items: running
+                .machine()
+                .payload_with(alloc, wanted.item)?
+                .as_slice()
+                .to_vec(alloc)?,
         })),
         Want::Print(value) => Ok(Some(Act::Prints(value))),
         Want::Internal => Ok(None),

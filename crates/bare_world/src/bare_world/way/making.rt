@@ -56,6 +56,7 @@ impl<'p> BareWorld<'p> {
 
     /// The rank of the act at this place steps until it has made it; that
     /// rank. It is counted how many acts of each rank came up to here.
+    #[tactic(auto, using(crate::proofs::Again::EachActIsMade::stocked_lines))]
     fn make<K: Stand>(
         &mut self,
         index: usize,
@@ -76,7 +77,7 @@ impl<'p> BareWorld<'p> {
         counts[usize::from(rank)] += 1;
         let count = counts[usize::from(rank)];
         if self.view(rank).clock < count {
-            self.seats.law_lines(rank);
+            self.law_stocked();
             let ahead: Ahead<K> = Ahead { of: PhantomData };
             self.step_to(&ahead, rank, count, events)?;
         }

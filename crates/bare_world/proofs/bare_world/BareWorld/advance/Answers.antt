@@ -14,6 +14,6 @@ answered w w' r t answer e follows = subst (λ z. Follows w (Step r) z w') (sym 
 -- src/bare_world/stepping.rt
 pub returns-clause-follows : goal.returns-clause-follows
 returns-clause-follows c =
-    answered c.args.self.now _ c.args.rank c.in-Ok.turn _ c.stepped.ensures
-    (step_some c.args.self.now _ c.args.rank c.in-Some.running.now c.in-Ok.turn c.requires.stands (search rules) (search rules) (search rules)
+    answered c.args.self.now _ c.args.rank c.in-Ok-step.turn _ c.stepped.ensures
+    (step_some c.args.self.now _ c.args.rank c.in-Some.running.now c.in-Ok-step.turn c.requires.stands (search rules) (search rules) (search rules)
     (search rules) (search rules) (search rules) (search rules) (search rules))
