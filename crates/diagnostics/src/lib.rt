@@ -16,7 +16,6 @@ mod program;
 mod script;
 mod shown;
 mod unmet;
-mod value;
 mod wordless;
 
 pub use events::explain_events;

@@ -1,13 +1,12 @@
 //! A program's fault, explained.
 
 use crate::declared::{Before, DeclaredName, OpenBlock, Sort};
-use crate::fitting::{STATEMENTS, first_misfit};
+use crate::fitting::{STATEMENTS, first_unfitting};
 use crate::foreign::{SET, aim_of};
 use crate::near::{NearWord, put_nearest};
 use crate::passed_limits::limit_passed;
 use crate::piece::{Cut, Piece, pieces_of};
 use crate::shown::{line_of, put_bytes, put_marked, put_piece};
-use crate::value::ExpressionReader;
 use crate::wordless::put_no_text;
 use limits::Heap;
 use rank_language::{FaultKind, ProgramFault};
@@ -96,18 +95,14 @@ fn put_aim(told: &mut TextWriter, aim: &str) {
 }
 
 fn put_misfit(told: &mut TextWriter, alloc: Heap, line: &[u8], pieces: &[Piece<'_>]) {
-    let mut reader = ExpressionReader::new(alloc);
-    match first_misfit(&mut reader, pieces) {
-        Some(misfit) => {
-            put_piece(told, line, pieces, misfit.place);
+    match first_unfitting(alloc, pieces) {
+        Ok(unfitting) => {
+            put_piece(told, line, pieces, unfitting.place);
             told.text("expected here: ");
-            told.text(misfit.expected);
+            told.text(unfitting.expected);
             told.sign('\n');
         }
-        None => put_piece(told, line, pieces, 0),
-    }
-    if let Err(error) = reader.room {
-        told.fail(error);
+        Err(error) => told.fail(error),
     }
 }
 

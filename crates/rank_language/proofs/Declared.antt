@@ -4,7 +4,8 @@ use Rattle.std.proofs.Common.{◌≡◌, ℕ, List, map, Bool, true, false, ◌&
 use Rattle.std.specs.Option.{is_some}
 use Rattle.rank_text.specs.Grammar.Tree.{Tree, number, variable, item, reading, negation, operation}
 use Rattle.rank_text.specs.Grammar.Forms.{Pattern, any, value, Payload, lone, one}
-use Rattle.rank_text.specs.Grammar.Forms.{Form, var_form, array_form, let_form, item_form, if_form, else_form, end_form, while_form, ◌>>=◌}
+use Rattle.rank_text.specs.Grammar.Forms.{Form, var_form, array_form, let_form, item_form, if_form, else_form, end_form, while_form}
+use Rattle.rank_language.specs.Options.{◌>>=◌}
 use Rattle.rank_text.specs.Grammar.Forms.{send_form, recv_form, probe_form, try_probe_form, print_form, barrier_form, bcast_form, reduce_form}
 use Rattle.rank_text.specs.Checker.Scope.{Scope, is_name_in, is_variable, is_array, is_declared, all_declared}
 use Rattle.rank_text.specs.Checker.Scope.{pattern_declared, payload_declared, declared_in, after}

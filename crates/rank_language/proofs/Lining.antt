@@ -2,7 +2,8 @@
 use Rattle.std.specs.Prelude.{◌≡◌, ℕ, suc, List, [], ◌∷◌, length, map, Option, Some, None}
 use Rattle.std.proofs.Common.{refl, sym, ap, ◌∙◌}
 use Rattle.std.proofs.lemmas.List.{length-map}
-use Rattle.rank_text.specs.Grammar.Forms.{Form, ◌>>=◌}
+use Rattle.rank_text.specs.Grammar.Forms.{Form}
+use Rattle.rank_language.specs.Options.{◌>>=◌}
 use Rattle.rank_text.specs.Checker.Faults.{IsText}
 use Rattle.rank_text.specs.Checker.Scope.{Scope, nothing_yet, after_all}
 use Rattle.rank_language.specs.Placed.{Step}

@@ -1,6 +1,6 @@
 -- What a value that came through options says of them.
 use Rattle.std.proofs.Common.{◌≡◌, ℕ, Bool, true, false, ◌||◌, Option, Some, None, option_map, refl, subst}
-use Rattle.rank_text.specs.Grammar.Forms.{◌>>=◌}
+use Rattle.rank_language.specs.Options.{◌>>=◌}
 use Rattle.rank_language.specs.Resolved.{either_place}
 
 -- a value of a mapped option comes from one of the option

@@ -6,7 +6,8 @@ use Rattle.std.proofs.lemmas.Iterator.Adapters.{position_from-zero}
 use Rattle.std.proofs.lemmas.List.{length-map}
 use Rattle.rank_text.specs.Grammar.Tree as text
 use Rattle.rank_text.specs.Grammar.Forms as line
-use Rattle.rank_text.specs.Grammar.Forms.{Form, ◌>>=◌}
+use Rattle.rank_text.specs.Grammar.Forms.{Form}
+use Rattle.rank_language.specs.Options.{◌>>=◌}
 use Rattle.rank_text.specs.Checker.Scope.{Scope}
 use Rattle.rank_language.specs.Placed.{Placed, number, variable, item, reading, negation, operation, Pattern, any, value}
 use Rattle.rank_language.specs.Placed.{Payload, one, all_of, Buffer, into_variable, into_array}

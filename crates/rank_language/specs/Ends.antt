@@ -3,7 +3,8 @@
 -- (docs/LANGUAGE.md: next positions). An `end` is met before the statement that it closes, so it
 -- goes on like that of an `if` until a `while` that is met leads it back.
 use Rattle.std.specs.Prelude.{ℕ, zero, suc, ◌+◌, ◌-◌, List, [], ◌∷◌, Option, Some, option_map}
-use Rattle.rank_text.specs.Grammar.Forms.{Form, var_form, array_form, let_form, item_form, if_form, else_form, end_form, while_form, ◌>>=◌}
+use Rattle.rank_text.specs.Grammar.Forms.{Form, var_form, array_form, let_form, item_form, if_form, else_form, end_form, while_form}
+use Rattle.rank_language.specs.Options.{◌>>=◌}
 use Rattle.rank_text.specs.Grammar.Forms.{send_form, recv_form, probe_form, try_probe_form, print_form, barrier_form, bcast_form, reduce_form}
 use Rattle.rank_text.specs.Checker.Scope.{Scope}
 use Rattle.rank_language.specs.Placed.{Step, does, tests, repeats, otherwise, closes}

@@ -1,3 +1,4 @@
+pub mod Options
 pub mod Placed
 pub mod Coding
 pub mod Block

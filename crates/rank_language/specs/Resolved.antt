@@ -4,7 +4,7 @@ use Rattle.std.specs.Prelude.{ℕ, pos, List, [], ◌∷◌, Option, Some, None,
 use Rattle.std.specs.Str.{bytes_eq}
 use Rattle.rank_text.specs.Grammar.Tree as text
 use Rattle.rank_text.specs.Grammar.Forms as line
-use Rattle.rank_text.specs.Grammar.Forms.{◌>>=◌}
+use Rattle.rank_language.specs.Options.{◌>>=◌}
 use Rattle.rank_text.specs.Checker.Scope.{Scope}
 use Rattle.rank_language.specs.Placed.{Placed, number, variable, item, reading, negation, operation, Pattern, any, value}
 use Rattle.rank_language.specs.Placed.{Payload, one, all_of, Buffer, into_variable, into_array}

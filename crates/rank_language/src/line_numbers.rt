@@ -1,14 +1,14 @@
 //! The numbers of the lines that have statements.
 ghost use Rattle.std.specs.Prelude.{◌≡◌, IfOk, List};
 ghost use Rattle.rank_text.specs.Checker.Faults.{IsText};
-ghost use Rattle.rank_text.specs.Checker.Lines.{is_skipped};
 ghost use Rattle.rank_text.specs.Grammar.Forms.{Form};
 ghost use Rattle.rank_text.specs.Lines.Pieces.{pieces_of};
 ghost use Rattle.rank_language.specs.StandOn.{StandOn};
 ghost use Rattle.rank_language.specs.LineNumbers.{numbers_from};
 
 use limits::Heap;
-use rank_text::lines::{next_line, without_front};
+use rank_text::checker::is_skipped;
+use rank_text::lines::next_line;
 use std::alloc::AllocError;
 
 /// The number, from 1, of the line on which each statement of a program's text stands. Skipped lines count.
@@ -36,14 +36,4 @@ fn numbers(alloc: Heap, text: &[u8]) -> Result<Vec<usize, Heap>, AllocError>
         rest = more;
     }
     Ok(lines)
-}
-
-/// Whether a program's line has only spaces, or is a comment.
-fn is_skipped(line: &[u8]) -> bool
-    ensures { result ≡ is_skipped line.now }
-{
-    match without_front(line, b' ') {
-        [] => true,
-        [byte, ..] => *byte == b'#',
-    }
 }

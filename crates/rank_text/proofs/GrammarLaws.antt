@@ -3,6 +3,7 @@ pub mod Sound
 pub mod Stacks
 pub mod Loop
 pub mod FormLaws
+pub mod MisfitLaws
 pub mod Exact
 pub mod Lexing
 pub mod Tables

@@ -9,3 +9,4 @@ pub mod Lexes
 pub mod SeenTokens
 pub mod Forms
 pub mod SeenForms
+pub mod Misfits

@@ -10,6 +10,7 @@ mod place;
 pub mod scope;
 mod survey;
 
+pub use bytes::is_skipped;
 pub use draft::{Draft, read};
 pub use fault::{FaultKind, ParseFault, ProgramFault};
 pub use laws::{law_one_reading, law_program_or_fault};

@@ -6,6 +6,7 @@
 pub mod form;
 pub mod forms;
 mod lexer;
+pub mod misfit;
 pub mod name;
 mod reader;
 pub mod token;
@@ -15,6 +16,7 @@ pub mod written;
 pub use form::{Form, Pattern, Payload};
 pub use forms::law_one_form;
 pub use lexer::{law_one_lexing, tokens};
+pub use misfit::{Expected, Misfit};
 pub use name::Name;
 pub use reader::{expression, expression_at, law_one_expression};
 pub use token::{Keyword, Operator, Reading, Reduction, Token};

@@ -1,16 +1,18 @@
 -- What is spelled is read.
-use Rattle.std.proofs.Common.{◌≡◌, ℕ, suc, List, [], ◌∷◌, ◌++◌, Some, None, refl, ap, ◌∙◌, append_assoc}
+use Rattle.std.proofs.Common.{◌≡◌, ℕ, suc, List, [], ◌∷◌, ◌++◌, Some, None, Ok, Err, refl, ap, ◌∙◌, append_assoc}
 use Rattle.rank_text.specs.declared.grammar.token.Operator.{Operator}
 use Rattle.rank_text.specs.declared.grammar.token.Strength.{Strength}
 use Rattle.rank_text.specs.declared.grammar.token.Strength.TheVariants.{Compares, Adds, Multiplies}
 use Rattle.rank_text.specs.declared.grammar.token.Token.{Token}
 use Rattle.rank_text.specs.declared.grammar.token.Token.TheVariants as t
+use Rattle.rank_text.specs.declared.grammar.misfit.Expected.TheVariants.{OneComparison}
 use Rattle.rank_text.specs.Grammar.Tree.{Tree, variable, item, operation}
 use Rattle.rank_text.specs.Grammar.Grammar.{strength, Rule, whole, sum, product, unary, atom}
 use Rattle.rank_text.specs.Grammar.Grammar.{Spells, is_number, is_variable, is_reading, is_item, in_parentheses, is_atom, negated, is_unary}
 use Rattle.rank_text.specs.Grammar.Grammar.{multiplied, is_product, added, is_sum, compared}
 use Rattle.rank_text.specs.Grammar.Reader.{Left, Level, parenthesis, index_of, Stack, wants, named, has}
-use Rattle.rank_text.specs.Grammar.Reader.{join, fresh, arrive, all_of, operate, next, end_of, go_on, read, expression_at}
+use Rattle.rank_text.specs.Grammar.Reader.{join, fresh, arrive, all_of, operate, next, with_rest, go_on, read, expression_at}
+use Rattle.rank_text.proofs.GrammarLaws.Stacks.{end_named, before_named}
 
 -- what follows doesn't make an item of a name
 abbrev pub NoBracket : List Token → Type 0
@@ -34,21 +36,17 @@ Reads whole ts e =
     (s : Stack) (rest : List Token) → NoBracket rest
     → (c a : Left) × (p : Tree) × (all_of c a p ≡ e) × (read (wants fresh s) (ts ++ rest) ≡ read (has c a s p) rest)
 
--- where an expression ends, a name is a variable
-end_named : (f : Level) (s : Stack) (x : List ℕ) (rest : List Token) → end_of (named f s x) rest ≡ end_of (arrive f s (variable x)) rest
-end_named f [] x rest = refl
-end_named f (b ∷ s) x rest = refl
-
 -- a name that no bracket follows is read on as a variable
-read_named : (f : Level) (s : Stack) (x : List ℕ) (rest : List Token) → NoBracket rest → read (named f s x) rest ≡ read (arrive f s (variable x)) rest
-read_named f s x [] h = end_named f s x []
+pub read_named : (f : Level) (s : Stack) (x : List ℕ) (rest : List Token) → NoBracket rest → read (named f s x) rest ≡ read (arrive f s (variable x)) rest
+read_named f s x [] h = ap (λ z. with_rest z []) (end_named f s x)
 read_named f s x (t.OpenBracket ∷ ts) h = absurd h
-read_named f s x (token ∷ ts) h = ap (λ z. go_on (next (named f s x) token) (λ st. read st ts) z) (end_named f s x (token ∷ ts))
+read_named f s x (token ∷ ts) h =
+    ap (λ z. go_on (next (named f s x) token) (λ st. read st ts) (with_rest z (token ∷ ts))) (before_named f s x token)
 
 -- an operator behind a product is read by its strength
 after_operator : (r : Strength) (o : Operator) → strength o ≡ r → (c a : Left) (s : Stack) (e : Tree) (ts : List Token)
-    → read (has c a s e) (t.Operator o ∷ ts) ≡ go_on (operate r o c a s e) (λ st. read st ts) (end_of (has c a s e) (t.Operator o ∷ ts))
-after_operator r o q c a s e ts = ap (λ z. go_on (operate z o c a s e) (λ st. read st ts) (end_of (has c a s e) (t.Operator o ∷ ts))) q
+    → read (has c a s e) (t.Operator o ∷ ts) ≡ go_on (operate r o c a s e) (λ st. read st ts) (Err (t.Operator o ∷ ts, OneComparison))
+after_operator r o q c a s e ts = ap (λ z. go_on (operate z o c a s e) (λ st. read st ts) (Err (t.Operator o ∷ ts, OneComparison))) q
 
 -- what is spelled by a rule is read as its tree, by induction on how it is spelled
 pub reads : {r : Rule} {ts : List Token} {e : Tree} → Spells r ts e → Reads r ts e
@@ -105,21 +103,21 @@ Ends (t.CloseBracket ∷ ts) = Unit {0}
 Ends (_ ∷ ts) = ⊥
 
 -- what ends an expression makes no item of a name
-no_bracket : (rest : List Token) → Ends rest → NoBracket rest
+pub no_bracket : (rest : List Token) → Ends rest → NoBracket rest
 no_bracket [] h = tt
 no_bracket (t.Comma ∷ ts) h = tt
 no_bracket (t.CloseBracket ∷ ts) h = tt
 no_bracket (_ ∷ ts) h = absurd h
 
 -- outside brackets the reader stops at what ends an expression, and has all of it
-stops : (c a : Left) (p : Tree) (rest : List Token) → Ends rest → read (has c a [] p) rest ≡ Some (all_of c a p, rest)
+pub stops : (c a : Left) (p : Tree) (rest : List Token) → Ends rest → read (has c a [] p) rest ≡ Ok (all_of c a p, rest)
 stops c a p [] h = refl
 stops c a p (t.Comma ∷ ts) h = refl
 stops c a p (t.CloseBracket ∷ ts) h = refl
 stops c a p (_ ∷ ts) h = absurd h
 
 -- what is spelled is read, where it ends
-pub complete : {ts : List Token} {e : Tree} → Spells whole ts e → (rest : List Token) → Ends rest → expression_at (ts ++ rest) ≡ Some (e, rest)
+pub complete : {ts : List Token} {e : Tree} → Spells whole ts e → (rest : List Token) → Ends rest → expression_at (ts ++ rest) ≡ Ok (e, rest)
 complete d rest h =
     let r = reads d [] rest (no_bracket rest h) in
-    r.4 ∙ stops r.0 r.1 r.2 rest h ∙ ap (λ z. Some (z, rest)) r.3
+    r.4 ∙ stops r.0 r.1 r.2 rest h ∙ ap (λ z. Ok (z, rest)) r.3

@@ -10,16 +10,16 @@ use Rattle.rank_text.specs.declared.grammar.reader.State as source_state
 use Rattle.rank_text.specs.Grammar.Tree.{Tree, variable}
 use Rattle.rank_text.specs.Grammar.Grammar.{strength}
 use Rattle.rank_text.specs.Grammar.Reader.{Left, Level, parenthesis, index_of, Stack, State, wants, named, has}
-use Rattle.rank_text.specs.Grammar.Reader.{operate, close, have_next, all_of, join, negate, sign, next, end_tree, with_rest, go_on, read}
+use Rattle.rank_text.specs.Grammar.Reader.{operate, close, have_next, all_of, join, negate, sign, next, end_before, with_rest, go_on, read}
 use Rattle.rank_text.specs.Grammar.Seen.{minuses_of, state_of}
 
 -- a token that can come there is taken, and the rest is read from the next state
 pub goes_on : (st st' : State) (token : Token) (ts : List Token) → next st token ≡ Some st' → read st (token ∷ ts) ≡ read st' ts
-goes_on st st' token ts q = ap (λ o. go_on o (λ z. read z ts) (with_rest (end_tree st) (token ∷ ts))) q
+goes_on st st' token ts q = ap (λ o. go_on o (λ z. read z ts) (with_rest (end_before st token) (token ∷ ts))) q
 
 -- a token that can't come there ends the reading, and is the first of the rest
-pub ends : (st : State) (token : Token) (ts : List Token) → next st token ≡ None → read st (token ∷ ts) ≡ with_rest (end_tree st) (token ∷ ts)
-ends st token ts q = ap (λ o. go_on o (λ z. read z ts) (with_rest (end_tree st) (token ∷ ts))) q
+pub ends : (st : State) (token : Token) (ts : List Token) → next st token ≡ None → read st (token ∷ ts) ≡ with_rest (end_before st token) (token ∷ ts)
+ends st token ts q = ap (λ o. go_on o (λ z. read z ts) (with_rest (end_before st token) (token ∷ ts))) q
 
 -- the signs before the operand that is wanted
 abbrev minuses : State → ℕ

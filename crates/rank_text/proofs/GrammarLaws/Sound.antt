@@ -1,5 +1,5 @@
 -- What is read is spelled.
-use Rattle.std.proofs.Common.{◌≡◌, ℕ, zero, suc, List, [], ◌∷◌, ◌++◌, Option, Some, None, refl, ap, ◌∙◌, sym, subst, append_assoc, append-nil, replicate}
+use Rattle.std.proofs.Common.{◌≡◌, ℕ, zero, suc, List, [], ◌∷◌, ◌++◌, Option, Some, None, Ok, Err, refl, ap, ◌∙◌, sym, subst, append_assoc, append-nil, replicate}
 use Rattle.rank_text.specs.declared.grammar.token.Operator.{Operator}
 use Rattle.rank_text.specs.declared.grammar.token.Operator.TheVariants.{Subtract}
 use Rattle.rank_text.specs.declared.grammar.token.Strength.{Strength}
@@ -11,7 +11,7 @@ use Rattle.rank_text.specs.Grammar.Grammar.{strength, minus, Rule, whole, sum, p
 use Rattle.rank_text.specs.Grammar.Grammar.{Spells, is_number, is_variable, is_reading, is_item, in_parentheses, is_atom, negated, is_unary}
 use Rattle.rank_text.specs.Grammar.Grammar.{multiplied, is_product, added, is_sum, compared}
 use Rattle.rank_text.specs.Grammar.Reader.{Left, Level, Bracket, parenthesis, index_of, Stack, State, wants, named, has}
-use Rattle.rank_text.specs.Grammar.Reader.{join, negate, fresh, arrive, all_of, operate, close, have_next, sign, next, end_of, go_on, read, expression_at}
+use Rattle.rank_text.specs.Grammar.Reader.{join, negate, fresh, arrive, all_of, operate, close, have_next, sign, next, end_tree, end_before, with_rest, go_on, Read, read, expression_at}
 
 -- a left operand and its operator stand there
 abbrev pub LeftIs : Rule → Strength → Left → List Token → Type 0
@@ -243,35 +243,44 @@ next_is (named f s x) token done h = has_next token f.compared f.added s (join f
 next_is (has c a s e) token done h = has_next token c a s e done h
 
 -- of what was read, the tokens so far and some more spell the expression
-abbrev pub ReadIs : Option (Tree × List Token) → List Token → List Token → Type 0
-ReadIs None done ts = Unit {0}
-ReadIs (Some r) done ts = (us : List Token) × Spells whole us r.0 × (done ++ ts ≡ us ++ r.1)
+abbrev pub ReadIs : Read (Tree × List Token) → List Token → List Token → Type 0
+ReadIs (Err m) done ts = Unit {0}
+ReadIs (Ok r) done ts = (us : List Token) × Spells whole us r.0 × (done ++ ts ≡ us ++ r.1)
 
 -- outside brackets a product, with what waits for it, is all of the expression
-ended_has : (c a : Left) (s : Stack) (e : Tree) (done rest : List Token) → StateIs (has c a s e) done → ReadIs (end_of (has c a s e) rest) done rest
+ended_has : (c a : Left) (s : Stack) (e : Tree) (done rest : List Token) → StateIs (has c a s e) done
+    → ReadIs (with_rest (end_tree (has c a s e)) rest) done rest
 ended_has c a [] e done rest h =
     let w = whole_is c a [] e done h in
     (w.1, w.3, ap (λ z. z ++ rest) (w.4 ∙ ap (λ z. z ++ w.1) w.2))
 ended_has c a (b ∷ s) e done rest h = tt
 
 -- where a reader has an expression, the tokens that led there spell it
-ended : (st : State) (done rest : List Token) → StateIs st done → ReadIs (end_of st rest) done rest
+ended : (st : State) (done rest : List Token) → StateIs st done → ReadIs (with_rest (end_tree st) rest) done rest
 ended (wants f s) done rest h = tt
 ended (named f [] x) done rest h = ended_has f.compared f.added [] (join f.multiplied (negate f.minuses (variable x))) done rest (named_is f [] x done h)
 ended (named f (b ∷ s) x) done rest h = tt
 ended (has c a s e) done rest h = ended_has c a s e done rest h
 
+-- so it is before a token that can't come
+stopped : (st : State) (token : Token) (done rest : List Token) → StateIs st done → ReadIs (with_rest (end_before st token) rest) done rest
+stopped (wants f s) token done rest h = tt
+stopped (named f s x) (t.Operator o) done rest h = tt
+stopped (named f s x) _ done rest h = ended (named f s x) done rest h
+stopped (has c a s e) (t.Operator o) done rest h = tt
+stopped (has c a s e) _ done rest h = ended (has c a s e) done rest h
+
 -- whether a token is read already or still to come, the tokens are the same
-shifted : (r : Option (Tree × List Token)) (done : List Token) (token : Token) (ts : List Token) → ReadIs r (done ++ token ∷ []) ts → ReadIs r done (token ∷ ts)
-shifted None done token ts h = tt
-shifted (Some r) done token ts h = (h.0, h.1, sym (append_assoc done (token ∷ []) ts) ∙ h.2)
+shifted : (r : Read (Tree × List Token)) (done : List Token) (token : Token) (ts : List Token) → ReadIs r (done ++ token ∷ []) ts → ReadIs r done (token ∷ ts)
+shifted (Err m) done token ts h = tt
+shifted (Ok r) done token ts h = (h.0, h.1, sym (append_assoc done (token ∷ []) ts) ∙ h.2)
 
 -- the token is read and the rest with it, or the expression ends before it
 gone_on : (ts : List Token) (token : Token) (o : Option State) (st : State) (done : List Token) → StateIs st done
     → NextIs o (done ++ token ∷ [])
     → ((st' : State) → StateIs st' (done ++ token ∷ []) → ReadIs (read st' ts) (done ++ token ∷ []) ts)
-    → ReadIs (go_on o (λ st'. read st' ts) (end_of st (token ∷ ts))) done (token ∷ ts)
-gone_on ts token None st done h k more = ended st done (token ∷ ts) h
+    → ReadIs (go_on o (λ st'. read st' ts) (with_rest (end_before st token) (token ∷ ts))) done (token ∷ ts)
+gone_on ts token None st done h k more = stopped st token done (token ∷ ts) h
 gone_on ts token (Some st') st done h k more = shifted (read st' ts) done token ts (more st' k)
 
 -- what is read from a state on spells an expression, by induction on the tokens that follow

@@ -1,5 +1,5 @@
 -- The forms of a line: which tokens make which statement (the language's own manual, docs/LANGUAGE.md).
-use Rattle.std.specs.Prelude.{ℕ, List, [], ◌∷◌, ◌++◌, Option, Some, None, option_and_then}
+use Rattle.std.specs.Prelude.{ℕ, List, [], ◌∷◌, ◌++◌, Option, Some, None, Ok, Err, length, nat_eq, if◌then◌else◌}
 use Rattle.rank_text.specs.declared.grammar.token.Keyword.{Keyword}
 use Rattle.rank_text.specs.declared.grammar.token.Keyword.TheVariants as k
 use Rattle.rank_text.specs.declared.grammar.token.Reduction.{Reduction}
@@ -7,7 +7,9 @@ use Rattle.rank_text.specs.declared.grammar.token.Token.{Token}
 use Rattle.rank_text.specs.declared.grammar.token.Token.TheVariants as t
 use Rattle.rank_text.specs.Grammar.Tree.{Tree}
 use Rattle.rank_text.specs.Grammar.Grammar.{Spells, whole}
-use Rattle.rank_text.specs.Grammar.Reader.{expression_at, whole_expression}
+use Rattle.rank_text.specs.Grammar.Reader.{Read, ◌>>=◌, bare, expression_at, whole_expression}
+use Rattle.rank_text.specs.declared.grammar.misfit.Expected.{Expected}
+use Rattle.rank_text.specs.declared.grammar.misfit.Expected.TheVariants as w
 
 -- the source or the tag of a receive or a probe: any, or the value of an expression
 pub data Pattern : Type 0 where
@@ -92,163 +94,165 @@ pub data IsForm : List Token → Form → Type 0 where
 
 -- The same, read from the left.
 
-infixl 10 ◌>>=◌
--- the next step, where this one has a result
-abbrev pub ◌>>=◌ : {A B : Type 0} → Option A → (A → Option B) → Option B
-o >>= f = option_and_then f o
-
 -- the tokens after the comma in front
-abbrev pub comma : List Token → Option (List Token)
-comma (t.Comma ∷ ts) = Some ts
-comma _ = None
-
--- the form of a statement word with no argument, where nothing follows
-abbrev pub bare : Form → List Token → Option Form
-bare f [] = Some f
-bare f (_ ∷ ts) = None
+abbrev pub comma : List Token → Read (List Token)
+comma (t.Comma ∷ ts) = Ok ts
+comma ts = Err (ts, w.Comma)
 
 -- the name that all of the tokens are
-abbrev pub lone_name : List Token → Option (List ℕ)
-lone_name (t.Name x ∷ []) = Some x
-lone_name _ = None
+abbrev pub lone_name : List Token → Read (List ℕ)
+lone_name (t.Name x ∷ ts) = bare x ts
+lone_name ts = Err (ts, w.Name)
+
+-- what is expected of a pattern: where no token of it fits, `any` too
+abbrev pub or_any : List Token → List Token × Expected → List Token × Expected
+or_any ts m = (m.0, if nat_eq (length m.0) (length ts) then w.AnyOrOperand else m.1)
+
+-- the pattern that the value in front is, and the tokens after it
+abbrev pub value_at : List Token → Read (Tree × List Token) → Read (Pattern × List Token)
+value_at ts (Ok e) = Ok (value e.0, e.1)
+value_at ts (Err m) = Err (or_any ts m)
 
 -- the pattern in front, and the tokens after it
-abbrev pub pattern_at : List Token → Option (Pattern × List Token)
-pattern_at (t.Any ∷ ts) = Some (any, ts)
-pattern_at ts = do
-  e ← expression_at ts
-  Some (value e.0, e.1)
+abbrev pub pattern_at : List Token → Read (Pattern × List Token)
+pattern_at (t.Any ∷ ts) = Ok (any, ts)
+pattern_at ts = value_at ts (expression_at ts)
 
 -- the source and the tag in front, each with the comma behind it, and the tokens after them
-unfoldable pub envelope_at : List Token → Option (Pattern × Pattern × List Token)
+unfoldable pub envelope_at : List Token → Read (Pattern × Pattern × List Token)
 envelope_at ts = do
   s ← pattern_at ts
   us ← comma s.1
   g ← pattern_at us
   vs ← comma g.1
-  Some (s.0, g.0, vs)
+  Ok (s.0, g.0, vs)
 
 -- the pattern that all of the tokens are
-abbrev pub whole_pattern : List Token → Option Pattern
-whole_pattern (t.Any ∷ []) = Some any
+abbrev pub whole_pattern : List Token → Read Pattern
 whole_pattern ts = do
-  e ← whole_expression ts
-  Some (value e)
+  c ← pattern_at ts
+  bare c.0 c.1
 
 -- the payload that all of the tokens are
-abbrev pub payload_of : List Token → Option Payload
-payload_of (t.Name x ∷ []) = Some (lone x)
+abbrev pub payload_of : List Token → Read Payload
+payload_of (t.Name x ∷ []) = Ok (lone x)
 payload_of ts = do
   e ← whole_expression ts
-  Some (one e)
+  Ok (one e)
 
 -- the form of `var` with these arguments
-unfoldable pub var_of : List Token → Option Form
+unfoldable pub var_of : List Token → Read Form
 var_of ts = do
   x ← lone_name ts
-  Some (var_form x)
+  Ok (var_form x)
 
 -- the form of `array` with these arguments: a name, and in brackets a number
-unfoldable pub array_of : List Token → Option Form
-array_of (t.Name x ∷ (t.OpenBracket ∷ (t.Number n ∷ (t.CloseBracket ∷ [])))) = Some (array_form x n)
-array_of _ = None
+unfoldable pub array_of : List Token → Read Form
+array_of (t.Name x ∷ (t.OpenBracket ∷ (t.Number n ∷ (t.CloseBracket ∷ ts)))) = bare (array_form x n) ts
+array_of (t.Name x ∷ (t.OpenBracket ∷ (t.Number n ∷ ts))) = Err (ts, w.CloseBracket)
+array_of (t.Name x ∷ (t.OpenBracket ∷ ts)) = Err (ts, w.Number)
+array_of (t.Name x ∷ ts) = Err (ts, w.Length)
+array_of ts = Err (ts, w.Name)
 
 -- the tokens after a closing bracket and `=` in front
-abbrev pub bracket_assign : List Token → Option (List Token)
-bracket_assign (t.CloseBracket ∷ (t.Assign ∷ ts)) = Some ts
-bracket_assign _ = None
+abbrev pub bracket_assign : List Token → Read (List Token)
+bracket_assign (t.CloseBracket ∷ (t.Assign ∷ ts)) = Ok ts
+bracket_assign (t.CloseBracket ∷ ts) = Err (ts, w.Assign)
+bracket_assign ts = Err (ts, w.CloseBracket)
 
 -- the form of `let` with an item of this name, from its index on
-unfoldable pub item_of : List ℕ → List Token → Option Form
+unfoldable pub item_of : List ℕ → List Token → Read Form
 item_of x ts = do
   i ← expression_at ts
   us ← bracket_assign i.1
   e ← whole_expression us
-  Some (item_form x i.0 e)
+  Ok (item_form x i.0 e)
 
 -- the form of `let` with these arguments: a name or an item, `=` and a value
-unfoldable pub let_of : List Token → Option Form
+unfoldable pub let_of : List Token → Read Form
 let_of (t.Name x ∷ (t.Assign ∷ ts)) = do
   e ← whole_expression ts
-  Some (let_form x e)
+  Ok (let_form x e)
 let_of (t.Name x ∷ (t.OpenBracket ∷ ts)) = item_of x ts
-let_of _ = None
+let_of (t.Name x ∷ ts) = Err (ts, w.AssignOrIndex)
+let_of ts = Err (ts, w.Name)
 
 -- the form of `if` with these arguments
-unfoldable pub if_of : List Token → Option Form
+unfoldable pub if_of : List Token → Read Form
 if_of ts = do
   e ← whole_expression ts
-  Some (if_form e)
+  Ok (if_form e)
 
 -- the form of `while` with these arguments
-unfoldable pub while_of : List Token → Option Form
+unfoldable pub while_of : List Token → Read Form
 while_of ts = do
   e ← whole_expression ts
-  Some (while_form e)
+  Ok (while_form e)
 
 -- the form of `send` with these arguments
-unfoldable pub send_of : List Token → Option Form
+unfoldable pub send_of : List Token → Read Form
 send_of ts = do
   d ← expression_at ts
   us ← comma d.1
   g ← expression_at us
   vs ← comma g.1
   p ← payload_of vs
-  Some (send_form d.0 g.0 p)
+  Ok (send_form d.0 g.0 p)
 
 -- the form of `recv` with these arguments
-unfoldable pub recv_of : List Token → Option Form
+unfoldable pub recv_of : List Token → Read Form
 recv_of ts = do
   e ← envelope_at ts
   x ← lone_name e.2
-  Some (recv_form e.0 e.1 x)
+  Ok (recv_form e.0 e.1 x)
 
 -- the form of `probe` with these arguments
-unfoldable pub probe_of : List Token → Option Form
+unfoldable pub probe_of : List Token → Read Form
 probe_of ts = do
   s ← pattern_at ts
   us ← comma s.1
   g ← whole_pattern us
-  Some (probe_form s.0 g)
+  Ok (probe_form s.0 g)
 
 -- the form of `iprobe` with these arguments
-unfoldable pub try_probe_of : List Token → Option Form
+unfoldable pub try_probe_of : List Token → Read Form
 try_probe_of ts = do
   e ← envelope_at ts
   x ← lone_name e.2
-  Some (try_probe_form e.0 e.1 x)
+  Ok (try_probe_form e.0 e.1 x)
 
 -- the form of `print` with these arguments
-unfoldable pub print_of : List Token → Option Form
+unfoldable pub print_of : List Token → Read Form
 print_of ts = do
   e ← whole_expression ts
-  Some (print_form e)
+  Ok (print_form e)
 
 -- the form of `bcast` with these arguments
-unfoldable pub bcast_of : List Token → Option Form
+unfoldable pub bcast_of : List Token → Read Form
 bcast_of ts = do
   d ← expression_at ts
   us ← comma d.1
   x ← lone_name us
-  Some (bcast_form d.0 x)
+  Ok (bcast_form d.0 x)
 
 -- the form of `reduce` with this reduction, from its root on
-unfoldable pub reduced_of : Reduction → List Token → Option Form
+unfoldable pub reduced_of : Reduction → List Token → Read Form
 reduced_of r ts = do
   d ← expression_at ts
   us ← comma d.1
   e ← expression_at us
   vs ← comma e.1
   x ← lone_name vs
-  Some (reduce_form r d.0 e.0 x)
+  Ok (reduce_form r d.0 e.0 x)
 
 -- the form of `reduce` with these arguments: a reduction, a root, a value and a name
-unfoldable pub reduce_of : List Token → Option Form
+unfoldable pub reduce_of : List Token → Read Form
 reduce_of (t.Reduction r ∷ (t.Comma ∷ ts)) = reduced_of r ts
-reduce_of _ = None
+reduce_of (t.Reduction r ∷ ts) = Err (ts, w.Comma)
+reduce_of ts = Err (ts, w.Reduction)
 
 -- the form of a statement word with these arguments
-abbrev pub form_with : Keyword → List Token → Option Form
+abbrev pub form_with : Keyword → List Token → Read Form
 form_with k.Var ts = var_of ts
 form_with k.Array ts = array_of ts
 form_with k.Let ts = let_of ts
@@ -265,7 +269,16 @@ form_with k.Barrier ts = bare barrier_form ts
 form_with k.Bcast ts = bcast_of ts
 form_with k.Reduce ts = reduce_of ts
 
+-- the form of a line's tokens, or where they don't go on as one
+abbrev pub read_form : List Token → Read Form
+read_form (t.Keyword word ∷ ts) = form_with word ts
+read_form ts = Err (ts, w.Statement)
+
+-- what was read, if it was
+abbrev pub ok_of : {A : Type 0} → Read A → Option A
+ok_of (Ok a) = Some a
+ok_of (Err m) = None
+
 -- the form of a line's tokens
 abbrev pub form_of : List Token → Option Form
-form_of (t.Keyword w ∷ ts) = form_with w ts
-form_of _ = None
+form_of ts = ok_of (read_form ts)

@@ -1,7 +1,9 @@
 -- Expressions read from the left, a token at a time (the language's own manual, docs/LANGUAGE.md).
 --
 -- `Spells` says the same as a grammar. The reader has a stack of its own, so nesting costs no recursion.
-use Rattle.std.specs.Prelude.{ℕ, zero, suc, List, [], ◌∷◌, Option, Some, None}
+use Rattle.std.specs.Prelude.{ℕ, zero, suc, List, [], ◌∷◌, Option, Some, None, Result, Ok, Err}
+use Rattle.rank_text.specs.declared.grammar.misfit.Expected.{Expected}
+use Rattle.rank_text.specs.declared.grammar.misfit.Expected.TheVariants.{Operand, InParentheses, InBrackets, OneComparison, Nothing}
 use Rattle.rank_text.specs.declared.grammar.token.Operator.{Operator}
 use Rattle.rank_text.specs.declared.grammar.token.Operator.TheVariants.{Add, Subtract, Multiply, Divide, Remainder}
 use Rattle.rank_text.specs.declared.grammar.token.Operator.TheVariants.{Equal, NotEqual, Less, LessEqual, Greater, GreaterEqual}
@@ -111,43 +113,62 @@ next (named f s x) t.OpenBracket = Some (wants fresh ((index_of x, f) ∷ s))
 next (named f s x) token = have_next f.compared f.added s (join f.multiplied (negate f.minuses (variable x))) token
 next (has c a s e) token = have_next c a s e token
 
--- the expression that a reader has where no token more belongs to it
-abbrev pub end_tree : State → Option Tree
-end_tree (wants f s) = None
-end_tree (named f [] x) = Some (all_of f.compared f.added (join f.multiplied (negate f.minuses (variable x))))
-end_tree (named f (b ∷ s) x) = None
-end_tree (has c a [] e) = Some (all_of c a e)
-end_tree (has c a (b ∷ s) e) = None
+-- what could stand behind a product in the innermost bracket
+abbrev pub inside : Bracket → Expected
+inside parenthesis = InParentheses
+inside (index_of x) = InBrackets
+
+-- the expression that a reader has where no token more belongs to it, or what is expected there
+abbrev pub end_tree : State → Result Tree Expected
+end_tree (wants f s) = Err Operand
+end_tree (named f [] x) = Ok (all_of f.compared f.added (join f.multiplied (negate f.minuses (variable x))))
+end_tree (named f (b ∷ s) x) = Err (inside b.0)
+end_tree (has c a [] e) = Ok (all_of c a e)
+end_tree (has c a (b ∷ s) e) = Err (inside b.0)
+
+-- the same before a token that can't come: no comparison may follow another one, not even behind the expression
+abbrev pub end_before : State → Token → Result Tree Expected
+end_before (wants f s) token = Err Operand
+end_before (named f s x) (t.Operator o) = Err OneComparison
+end_before (has c a s e) (t.Operator o) = Err OneComparison
+end_before st token = end_tree st
+
+-- what is read from tokens, or the tokens from the one on that doesn't fit, and what is expected in its place
+abbrev pub Read : Type 0 → Type 0
+Read A = Result A (List Token × Expected)
 
 -- an expression, if there is one, and the rest
-abbrev pub with_rest : Option Tree → List Token → Option (Tree × List Token)
-with_rest None rest = None
-with_rest (Some e) rest = Some (e, rest)
-
--- what a reader has found where no token more belongs to it
-abbrev pub end_of : State → List Token → Option (Tree × List Token)
-end_of st rest = with_rest (end_tree st) rest
+abbrev pub with_rest : Result Tree Expected → List Token → Read (Tree × List Token)
+with_rest (Err x) rest = Err (rest, x)
+with_rest (Ok e) rest = Ok (e, rest)
 
 -- one more token, where it can come
-abbrev pub go_on : Option State → (State → Option (Tree × List Token)) → Option (Tree × List Token) → Option (Tree × List Token)
+abbrev pub go_on : Option State → (State → Read (Tree × List Token)) → Read (Tree × List Token) → Read (Tree × List Token)
 go_on None more stop = stop
 go_on (Some st) more stop = more st
 
 -- what a reader finds in the tokens
-abbrev pub read : State → List Token → Option (Tree × List Token)
-read st [] = end_of st []
-read st (token ∷ tokens) = go_on (next st token) (λ st'. read st' tokens) (end_of st (token ∷ tokens))
+abbrev pub read : State → List Token → Read (Tree × List Token)
+read st [] = with_rest (end_tree st) []
+read st (token ∷ tokens) = go_on (next st token) (λ st'. read st' tokens) (with_rest (end_before st token) (token ∷ tokens))
 
 -- the expression at the front, as much of the tokens as belongs to it, and the rest
-abbrev pub expression_at : List Token → Option (Tree × List Token)
+abbrev pub expression_at : List Token → Read (Tree × List Token)
 expression_at tokens = read (wants fresh []) tokens
 
--- the expression, if nothing follows it
-abbrev pub alone : Option (Tree × List Token) → Option Tree
-alone None = None
-alone (Some (e, [])) = Some e
-alone (Some (e, (_ ∷ _))) = None
+-- a value, if no token follows it
+abbrev pub bare : {A : Type 0} → A → List Token → Read A
+bare a [] = Ok a
+bare a (token ∷ tokens) = Err (token ∷ tokens, Nothing)
+
+infixl 10 ◌>>=◌
+-- the next step, where this one has a result
+abbrev pub ◌>>=◌ : {A B : Type 0} → Read A → (A → Read B) → Read B
+Ok a >>= f = f a
+Err m >>= f = Err m
 
 -- the expression of all of the tokens
-abbrev pub whole_expression : List Token → Option Tree
-whole_expression tokens = alone (expression_at tokens)
+abbrev pub whole_expression : List Token → Read Tree
+whole_expression tokens = do
+  e ← expression_at tokens
+  bare e.0 e.1

@@ -1,5 +1,5 @@
 -- What the reader's values in the code stand for.
-use Rattle.std.specs.Prelude.{◌≡◌, ℕ, List, [], ◌∷◌, Option, Some, None, ◌++◌}
+use Rattle.std.specs.Prelude.{◌≡◌, ℕ, List, [], ◌∷◌, Option, Some, None, Result, Ok, Err, ◌++◌}
 use Rattle.rank_text.specs.declared.grammar.token.Operator.{Operator}
 use Rattle.rank_text.specs.declared.grammar.token.Token.{Token}
 use Rattle.rank_text.specs.declared.grammar.written.Written.{Written}
@@ -9,7 +9,9 @@ use Rattle.rank_text.specs.declared.grammar.reader.State as source_state
 use Rattle.rank_text.specs.declared.grammar.reader.Step as source_step
 use Rattle.std.specs.Borrow.{Bor}
 use Rattle.rank_text.specs.Grammar.Tree.{Tree, tree_of}
-use Rattle.rank_text.specs.Grammar.Reader.{Left, Level, Bracket, parenthesis, index_of, Stack, State, wants, named, has}
+use Rattle.rank_text.specs.declared.grammar.misfit.Expected.{Expected}
+use Rattle.rank_text.specs.declared.grammar.misfit.Misfit.{Misfit}
+use Rattle.rank_text.specs.Grammar.Reader.{Left, Level, Bracket, parenthesis, index_of, Stack, State, wants, named, has, Read}
 
 -- a left operand that waits, and its operator
 abbrev pub left_of : Option (Written × Operator) → Left
@@ -42,17 +44,26 @@ minuses_of (source_state.TheVariants.Wants f) = f.minuses
 minuses_of (source_state.TheVariants.Named f x) = 0
 minuses_of (source_state.TheVariants.Has c a e) = 0
 
--- the tree of an expression, if there is one
-abbrev pub tree_in : Option Written → Option Tree
-tree_in None = None
-tree_in (Some e) = Some (tree_of e)
+-- where the reading stopped, and what is expected there
+abbrev pub misfit_of : Misfit → List Token × Expected
+misfit_of m = (m.rest.now, m.expected)
+
+-- the tree of what has been read, or what is expected
+abbrev pub ended_of : Result Written Expected → Result Tree Expected
+ended_of (Ok e) = Ok (tree_of e)
+ended_of (Err x) = Err x
 
 -- what a step is: the next state, or where the token can't come the end with what has been read
-abbrev pub Goes : source_step.Step → List (source_bracket.Bracket × source_level.Level) → Option State → Option Tree → Type 0
+abbrev pub Goes : source_step.Step → List (source_bracket.Bracket × source_level.Level) → Option State → Result Tree Expected → Type 0
 Goes (source_step.TheVariants.Next st) stack next stop = next ≡ Some (state_of st (stack_of stack))
-Goes (source_step.TheVariants.End e) stack next stop = (next ≡ None) × (tree_in e ≡ stop)
+Goes (source_step.TheVariants.End e) stack next stop = (next ≡ None) × (ended_of e ≡ stop)
+
+-- the tree of an expression, if one was read
+abbrev pub tree_in : Result Written Misfit → Read Tree
+tree_in (Ok e) = Ok (tree_of e)
+tree_in (Err m) = Err (misfit_of m)
 
 -- what was read, and the tokens that follow
-abbrev pub found_of : Option (Written × Bor (List Token)) → Option (Tree × List Token)
-found_of None = None
-found_of (Some f) = Some (tree_of f.0, f.1.now)
+abbrev pub found_of : Result (Written × Bor (List Token)) Misfit → Read (Tree × List Token)
+found_of (Ok f) = Ok (tree_of f.0, f.1.now)
+found_of (Err m) = Err (misfit_of m)

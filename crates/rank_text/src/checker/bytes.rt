@@ -21,8 +21,8 @@ pub(crate) fn is_text(line: &[u8]) -> bool
     true
 }
 
-/// Whether the line has only spaces, or is a comment.
-pub(crate) fn is_skipped(line: &[u8]) -> bool
+/// Whether the line of a program's text has only spaces, or is a comment.
+pub fn is_skipped(line: &[u8]) -> bool
     ensures { result ≡ is_skipped line.now }
 {
     match without_front(line, b' ') {

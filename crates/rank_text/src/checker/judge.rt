@@ -96,8 +96,8 @@ fn with_tokens(
     ensures { IfOk result (λ j. judged_seen j ≡ formed (scope_seen scope.now) number (Some tokens.now)) }
 {
     match form(alloc, tokens)? {
-        None => Ok(Judged::Faulty(FaultKind::BadForm)),
-        Some(form) => stated(alloc, scope, number, tokens, form),
+        Err(_) => Ok(Judged::Faulty(FaultKind::BadForm)),
+        Ok(form) => stated(alloc, scope, number, tokens, form),
     }
 }
 

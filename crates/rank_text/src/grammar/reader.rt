@@ -1,19 +1,21 @@
 //! Reads an expression from tokens, without recursion: an open bracket costs an
 //! entry of a stack of its own, so that no nesting can use up the thread's.
 
-ghost use Rattle.std.specs.Prelude.{◌≡◌, ◌<◌, ◌^◌, ◌-◌, IfOk, IfSome, Some, List};
+ghost use Rattle.std.specs.Prelude.{◌≡◌, ◌<◌, ◌^◌, ◌-◌, IfOk, Ok, Err, List};
 ghost use Rattle.rank_text.specs.Grammar.Tree.{Tree, tree_of};
 ghost use Rattle.rank_text.specs.Grammar.Grammar.{strength, Spells, whole};
 ghost use Rattle.rank_text.specs.Grammar.Reader.{fresh, arrive, wants, has, operate};
-ghost use Rattle.rank_text.specs.Grammar.Reader.{next, end_tree, with_rest, expression_at, whole_expression};
+ghost use Rattle.rank_text.specs.Grammar.Reader.{next, end_tree, end_before, inside, with_rest, expression_at, whole_expression};
+ghost use Rattle.rank_text.specs.declared.grammar.misfit.Expected.TheVariants.{OneComparison};
 ghost use Rattle.rank_text.specs.declared.grammar.reader.Bracket.{Bracket};
 ghost use Rattle.rank_text.specs.declared.grammar.token.Token.{Token};
 ghost use Rattle.rank_text.specs.declared.grammar.reader.Level.{Level};
-ghost use Rattle.rank_text.specs.Grammar.Seen.{left_of, level_of, state_of, stack_of, tree_in, minuses_of, found_of, Goes};
+ghost use Rattle.rank_text.specs.Grammar.Seen.{left_of, level_of, state_of, stack_of, bracket_of, tree_in, ended_of, minuses_of, found_of, Goes};
 
 mod brackets;
 mod operands;
 
+use crate::grammar::misfit::{Expected, Misfit};
 use crate::grammar::name::Name;
 use crate::grammar::token::{Operator, Strength, Token};
 use crate::grammar::written::Written;
@@ -40,6 +42,18 @@ enum Bracket {
     IndexOf(Name),
 }
 
+impl Bracket {
+    /// What could stand behind a product in the bracket.
+    fn inside(self) -> Expected
+        ensures { result ≡ inside (bracket_of self) }
+    {
+        match self {
+            Bracket::Parenthesis => Expected::InParentheses,
+            Bracket::IndexOf(_) => Expected::InBrackets,
+        }
+    }
+}
+
 #[derive(Drop)]
 enum State {
     Wants(Level),
@@ -50,7 +64,7 @@ enum State {
 #[derive(Drop)]
 enum Step {
     Next(State),
-    End(Option<Written>),
+    End(Result<Written, Expected>),
 }
 
 impl Level {
@@ -88,7 +102,7 @@ fn operated(
     ensures { IfOk result (λ step. let s = stack_of stack.now in
         Goes step stack.now
         (operate (strength operator) operator (left_of compared) (left_of added) s (tree_of product))
-        (end_tree (has (left_of compared) (left_of added) s (tree_of product)))) }
+        (Err OneComparison)) }
 {
     match operator.strength() {
         Strength::Multiplies => Ok(Step::Next(State::Wants(Level {
@@ -108,7 +122,10 @@ fn operated(
         }
         Strength::Compares => {
             if let Some(left) = compared {
-                return stopped(alloc, Some(left), added, product, stack).map(Step::End);
+                drop(left);
+                drop(added);
+                drop(product);
+                return Ok(Step::End(Err(Expected::OneComparison)));
             }
             let sum = joined(alloc, added, product)?;
             Ok(Step::Next(State::Wants(Level {
@@ -131,7 +148,7 @@ fn after_product(
     token: Token,
 ) -> Result<Step, AllocError>
     ensures { IfOk result (λ step. let old = has (left_of compared) (left_of added) (stack_of stack.old.items) (tree_of product) in
-        Goes step stack.new.items (next old token) (end_tree old)) }
+        Goes step stack.new.items (next old token) (end_before old token)) }
 {
     match token {
         Token::Operator(operator) => operated(alloc, compared, added, product, stack, operator),
@@ -149,7 +166,7 @@ fn wanted(
 ) -> Result<Step, AllocError>
     requires { level.minuses < 2 ^ 64 - 1 }
     ensures { IfOk result (λ step. let old = wants (level_of level) (stack_of stack.old.items) in
-        Goes step stack.new.items (next old token) (end_tree old)) }
+        Goes step stack.new.items (next old token) (end_before old token)) }
 {
     match token {
         Token::Number(n) => arrived(alloc, level, Written::Number(n)).map(Step::Next),
@@ -162,7 +179,7 @@ fn wanted(
         Token::Operator(operator) => {
             if operator != Operator::Subtract {
                 drop(level);
-                return Ok(Step::End(None));
+                return Ok(Step::End(Err(Expected::Operand)));
             }
             level.minuses += 1;
             Ok(Step::Next(State::Wants(level)))
@@ -176,7 +193,7 @@ fn wanted(
         | Token::Assign
         | Token::Any => {
             drop(level);
-            Ok(Step::End(None))
+            Ok(Step::End(Err(Expected::Operand)))
         }
     }
 }
@@ -186,14 +203,14 @@ fn wanted(
 fn ended(
     alloc: Heap,
     state: State,
-    stack: &[(Bracket, Level)],
-) -> Result<Option<Written>, AllocError>
-    ensures { IfOk result (λ e. tree_in e ≡ end_tree (state_of state (stack_of stack.now))) }
+    stack: &mut Vec<(Bracket, Level), Heap>,
+) -> Result<Result<Written, Expected>, AllocError>
+    ensures { IfOk result (λ e. ended_of e ≡ end_tree (state_of state (stack_of stack.old.items))) }
 {
     match state {
         State::Wants(level) => {
             drop(level);
-            Ok(None)
+            Ok(Err(Expected::Operand))
         }
         State::Named(level, name) => {
             match product(alloc, level, Written::Variable(name)) {
@@ -206,7 +223,7 @@ fn ended(
 }
 
 /// The reader after a token, or what it has read where the token can't come.
-#[tactic(auto, using(crate::proofs::GrammarLaws::Stacks::stack_of_push, crate::proofs::GrammarLaws::Stacks::next_named, crate::proofs::GrammarLaws::Stacks::end_named))]
+#[tactic(auto, using(crate::proofs::GrammarLaws::Stacks::stack_of_push, crate::proofs::GrammarLaws::Stacks::next_named, crate::proofs::GrammarLaws::Stacks::before_named))]
 fn take_token(
     alloc: Heap,
     state: State,
@@ -215,7 +232,7 @@ fn take_token(
 ) -> Result<Step, AllocError>
     requires { minuses_of state < 2 ^ 64 - 1 }
     ensures { IfOk result (λ step. let old = state_of state (stack_of stack.old.items) in
-        Goes step stack.new.items (next old token) (end_tree old)) }
+        Goes step stack.new.items (next old token) (end_before old token)) }
 {
     match state {
         State::Wants(level) => wanted(alloc, level, stack, token),
@@ -237,12 +254,12 @@ fn take_token(
     }
 }
 
-fn found(read: Option<Written>, rest: &[Token]) -> Option<(Written, &[Token])>
-    ensures { found_of result ≡ with_rest (tree_in read) rest.now }
+fn found(read: Result<Written, Expected>, rest: &[Token]) -> Result<(Written, &[Token]), Misfit<'_>>
+    ensures { found_of result ≡ with_rest (ended_of read) rest.now }
 {
     match read {
-        None => None,
-        Some(e) => Some((e, rest)),
+        Ok(e) => Ok((e, rest)),
+        Err(expected) => Err(Misfit { rest, expected }),
     }
 }
 
@@ -251,7 +268,7 @@ fn found(read: Option<Written>, rest: &[Token]) -> Option<(Written, &[Token])>
 pub fn expression_at(
     alloc: Heap,
     tokens: &[Token],
-) -> Result<Option<(Written, &[Token])>, AllocError>
+) -> Result<Result<(Written, &[Token]), Misfit<'_>>, AllocError>
     ensures { IfOk result (λ found. found_of found ≡ expression_at tokens.now) }
 {
     let mut stack = Vec::new(alloc);
@@ -264,29 +281,37 @@ pub fn expression_at(
         }
         rest = more;
     }
-    let read = ended(alloc, state, &stack)?;
+    let read = ended(alloc, state, &mut stack)?;
     Ok(found(read, rest))
 }
 
 /// The expression of all of the tokens.
-pub(crate) fn whole_expression(alloc: Heap, tokens: &[Token]) -> Result<Option<Written>, AllocError>
+pub(crate) fn whole_expression(
+    alloc: Heap,
+    tokens: &[Token],
+) -> Result<Result<Written, Misfit<'_>>, AllocError>
     ensures { IfOk result (λ o. tree_in o ≡ whole_expression tokens.now) }
 {
-    let Some((operand, rest)) = expression_at(alloc, tokens)? else {
-        return Ok(None);
+    let (operand, rest) = match expression_at(alloc, tokens)? {
+        Ok(found) => found,
+        Err(misfit) => return Ok(Err(misfit)),
     };
     if !rest.is_empty() {
-        return Ok(None);
+        drop(operand);
+        return Ok(Err(Misfit {
+            rest,
+            expected: Expected::Nothing,
+        }));
     }
-    Ok(Some(operand))
+    Ok(Ok(operand))
 }
 
-/// The expression that all of the tokens spell, or none where they spell none.
-pub fn expression(alloc: Heap, tokens: &[Token]) -> Result<Option<Written>, AllocError>
+/// The expression that all of the tokens spell, or where they don't go on as one.
+pub fn expression(alloc: Heap, tokens: &[Token]) -> Result<Result<Written, Misfit<'_>>, AllocError>
     // What is read is spelled so.
-    ensures found { IfOk result (λ o. IfSome o (λ e. Spells whole tokens.now (tree_of e))) }
+    ensures found { IfOk result (λ o. IfOk o (λ e. Spells whole tokens.now (tree_of e))) }
     // What is spelled so is read, and nothing else.
-    ensures only { IfOk result (λ o. (e : Tree) → Spells whole tokens.now e → tree_in o ≡ Some e) }
+    ensures only { IfOk result (λ o. (e : Tree) → Spells whole tokens.now e → tree_in o ≡ Ok e) }
 {
     whole_expression(alloc, tokens)
 }

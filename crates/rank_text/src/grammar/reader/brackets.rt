@@ -1,15 +1,16 @@
 //! What stands in brackets ends.
-ghost use Rattle.std.specs.Prelude.{◌≡◌, ◌<◌, ◌-◌, IfOk, Some, List, ◌∷◌};
+ghost use Rattle.std.specs.Prelude.{◌≡◌, ◌<◌, ◌-◌, IfOk, Err, List, ◌∷◌};
 ghost use Rattle.rank_text.specs.Grammar.Tree.{tree_of};
-ghost use Rattle.rank_text.specs.Grammar.Reader.{all_of, has, close};
+ghost use Rattle.rank_text.specs.Grammar.Reader.{all_of, has, close, inside};
 ghost use Rattle.rank_text.specs.Grammar.Reader.{end_tree};
 ghost use Rattle.rank_text.specs.declared.grammar.reader.Bracket.{Bracket};
 ghost use Rattle.rank_text.specs.declared.grammar.token.Token.{Token};
 ghost use Rattle.rank_text.specs.declared.grammar.reader.Level.{Level};
-ghost use Rattle.rank_text.specs.Grammar.Seen.{left_of, level_of, stack_of, bracket_of, tree_in, Goes};
+ghost use Rattle.rank_text.specs.Grammar.Seen.{left_of, level_of, stack_of, bracket_of, ended_of, Goes};
 
 use super::operands::joined;
 use super::{Bracket, Left, Level, Step, arrived};
+use crate::grammar::misfit::Expected;
 use crate::grammar::token::Token;
 use crate::grammar::written::Written;
 use limits::Heap;
@@ -36,7 +37,8 @@ fn closed(
     token: Token,
 ) -> Result<Step, AllocError>
     ensures { IfOk result (λ step. (s : List (Bracket × Level)) → Goes step s
-        (close token ((bracket_of bracket, level_of level) ∷ stack_of s) (tree_of operand)) None) }
+        (close token ((bracket_of bracket, level_of level) ∷ stack_of s) (tree_of operand))
+        (Err (inside (bracket_of bracket)))) }
 {
     match bracket {
         Bracket::Parenthesis => match token {
@@ -44,7 +46,7 @@ fn closed(
             _ => {
                 drop(level);
                 drop(operand);
-                Ok(Step::End(None))
+                Ok(Step::End(Err(Expected::InParentheses)))
             }
         },
         Bracket::IndexOf(name) => match token {
@@ -61,7 +63,7 @@ fn closed(
             _ => {
                 drop(level);
                 drop(operand);
-                Ok(Step::End(None))
+                Ok(Step::End(Err(Expected::InBrackets)))
             }
         },
     }
@@ -83,29 +85,30 @@ pub(super) fn closing(
 {
     let operand = in_brackets(alloc, compared, added, product)?;
     match stack.pop() {
-        None => Ok(Step::End(Some(operand))),
+        None => Ok(Step::End(Ok(operand))),
         Some((bracket, level)) => closed(alloc, bracket, level, operand, token),
     }
 }
 
-/// What has been read where a product doesn't go on.
-#[tactic(auto, using(crate::proofs::GrammarLaws::Stacks::end_inside))]
+/// What has been read where the tokens end behind a product.
+#[tactic(auto, using(crate::proofs::GrammarLaws::Stacks::stack_of_push))]
 pub(super) fn stopped(
     alloc: Heap,
     compared: Left,
     added: Left,
     product: Written,
-    stack: &[(Bracket, Level)],
-) -> Result<Option<Written>, AllocError>
-    ensures { IfOk result (λ e. tree_in e
-        ≡ end_tree (has (left_of compared) (left_of added) (stack_of stack.now) (tree_of product))) }
+    stack: &mut Vec<(Bracket, Level), Heap>,
+) -> Result<Result<Written, Expected>, AllocError>
+    ensures { IfOk result (λ e. ended_of e
+        ≡ end_tree (has (left_of compared) (left_of added) (stack_of stack.old.items) (tree_of product))) }
 {
-    if !stack.is_empty() {
-        drop(compared);
-        drop(added);
-        drop(product);
-        return Ok(None);
-    }
     let operand = in_brackets(alloc, compared, added, product)?;
-    Ok(Some(operand))
+    match stack.pop() {
+        None => Ok(Ok(operand)),
+        Some((bracket, level)) => {
+            drop(level);
+            drop(operand);
+            Ok(Err(bracket.inside()))
+        }
+    }
 }
