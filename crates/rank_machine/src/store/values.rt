@@ -74,6 +74,59 @@ impl Store {
         }
     }
 
+    // The value of a number, of a variable, or of an operation on a variable and one of these.
+    // Like `index` and `near` it is put into its callers: what they know takes no call.
+    #[inline(always)]
+    fn simple(&self, expression: &Expression) -> Option<Result<i64, MachineFault>>
+        requires { IsWithin (length self.now.variables) (length self.now.arrays) (placed_of expression.now) }
+        ensures { IfSome result (λ found. found ≡ value self.now (placed_of expression.now)) }
+    {
+        match expression {
+            Expression::Number(number) => Some(Ok(*number)),
+            Expression::Variable(place) => Some(Ok(self.variables[*place])),
+            Expression::Simple(operator, place, right) => {
+                let right = self.operand(*right);
+                Some(operated(*operator, self.variables[*place], right))
+            }
+            Expression::Item(_, _)
+            | Expression::Reading(_)
+            | Expression::Negation(_)
+            | Expression::Operation(_, _, _) => None,
+        }
+    }
+
+    // The same, or the value of an operation on such an expression and a number or a variable: so
+    // a place in a table is found, as `i * 16 + k`.
+    #[inline(always)]
+    fn index(&self, expression: &Expression) -> Option<Result<i64, MachineFault>>
+        requires { IsWithin (length self.now.variables) (length self.now.arrays) (placed_of expression.now) }
+        ensures { IfSome result (λ found. found ≡ value self.now (placed_of expression.now)) }
+    {
+        let Expression::Operation(operator, left, right) = expression else {
+            return self.simple(expression);
+        };
+        let right = self.leaf(right)?;
+        match self.simple(left)? {
+            Ok(left) => Some(operated(*operator, left, right)),
+            Err(fault) => Some(Err(fault)),
+        }
+    }
+
+    // The value of a simple expression, or of an item with an index as above.
+    #[inline(always)]
+    fn near(&self, expression: &Expression) -> Option<Result<i64, MachineFault>>
+        requires { IsWithin (length self.now.variables) (length self.now.arrays) (placed_of expression.now) }
+        ensures { IfSome result (λ found. found ≡ value self.now (placed_of expression.now)) }
+    {
+        let Expression::Item(place, index) = expression else {
+            return self.simple(expression);
+        };
+        match self.index(index)? {
+            Ok(index) => Some(self.arrays[*place].item_at(index)),
+            Err(fault) => Some(Err(fault)),
+        }
+    }
+
     // The value of any expression, or none and its fault. So a value is answered in registers.
     fn computed(&self, expression: &Expression, fault: &mut MachineFault) -> Option<i64>
         requires { IsWithin (length self.now.variables) (length self.now.arrays) (placed_of expression.now) }
@@ -83,8 +136,8 @@ impl Store {
             Expression::Number(number) => Some(*number),
             Expression::Variable(place) => Some(self.variables[*place]),
             Expression::Item(place, index) => {
-                let index = match self.leaf(index) {
-                    Some(value) => value,
+                let index = match self.index(index) {
+                    Some(value) => value_or(value, fault)?,
                     None => self.computed(index, fault)?,
                 };
                 value_or(self.arrays[*place].item_at(index), fault)
@@ -95,12 +148,12 @@ impl Store {
                 value_or(negated(operand), fault)
             }
             Expression::Operation(operator, left, right) => {
-                let left = match self.leaf(left) {
-                    Some(value) => value,
+                let left = match self.near(left) {
+                    Some(value) => value_or(value, fault)?,
                     None => self.computed(left, fault)?,
                 };
-                let right = match self.leaf(right) {
-                    Some(value) => value,
+                let right = match self.near(right) {
+                    Some(value) => value_or(value, fault)?,
                     None => self.computed(right, fault)?,
                 };
                 value_or(operated(*operator, left, right), fault)
