@@ -1,61 +1,137 @@
 //! Steps of a rank's own, by the compact forms of their statements.
-ghost use Rattle.std.specs.Prelude.{◌≡◌, ◌<◌, ◌+◌, ◌-◌, ◌^◌, IfSome, Some, length, map, if◌then◌else◌};
+ghost use Rattle.std.specs.Prelude.{◌≡◌, ◌<◌, ◌+◌, ◌-◌, ◌^◌, IfSome, Ok, Some, length, map, if◌then◌else◌};
 ghost use Rattle.rank_language.specs.Compact.{compact_line};
-ghost use Rattle.rank_language.specs.Placed.{number};
-ghost use Rattle.rank_language.specs.Program.{IsPlaced};
+ghost use Rattle.rank_language.specs.Placed.{variable};
+ghost use Rattle.rank_language.specs.Program.{IsPlaced, IsWithin};
+ghost use Rattle.rank_language.specs.Seen.{operand_of};
 ghost use Rattle.rank_machine.specs.States.{assigned, item_assigned, item_value};
-ghost use Rattle.rank_machine.specs.Machine.{where_valued, next_after, store_after};
+ghost use Rattle.rank_machine.specs.Machine.{is_true, next_after, store_after, where_valued};
+ghost use Rattle.rank_machine.specs.Spelled.{let_expression, test_expression};
+ghost use Rattle.rank_machine.specs.Values.{truth, value};
 
 use crate::fault::MachineFault;
 use crate::operate::{difference, product, quotient, remainder, sum};
 use crate::store::Store;
-use rank_language::Compact;
-
-// Where a test leads.
-#[inline(always)]
-fn branch(holds: bool, position: usize, otherwise: usize) -> Option<usize>
-    requires position { position < 2 ^ 64 - 1 }
-    ensures { result ≡ Some (if holds then position + 1 else otherwise) }
-{
-    Some(if holds { position + 1 } else { otherwise })
-}
+use rank_language::{Compact, Operand};
 
 impl Store {
-    // A variable gets a value, and the next position follows. None if the value is a fault, and
-    // then nothing changes.
+    // Whether the test holds that a compact form spells. One that spells none tests 0.
     #[inline(always)]
-    fn assign(
-        &mut self,
-        place: usize,
-        value: Result<i64, MachineFault>,
-        position: usize,
-    ) -> Option<usize>
-        requires place { place < length self.old.variables }
+    fn holds(&self, compact: &Compact) -> bool
+        requires placed { IfSome (compact_line compact.now) (IsPlaced (length self.now.variables) (length self.now.arrays)) }
+        ensures { value self.now (test_expression (compact_line compact.now)) ≡ Ok (truth result) }
+    {
+        let values = &self.variables;
+        match compact {
+            Compact::EqualNumber(left, right, _) => values[*left] == *right,
+            Compact::EqualVariable(left, right, _) => values[*left] == values[*right],
+            Compact::NotEqualNumber(left, right, _) => values[*left] != *right,
+            Compact::NotEqualVariable(left, right, _) => values[*left] != values[*right],
+            Compact::LessNumber(left, right, _) => values[*left] < *right,
+            Compact::LessVariable(left, right, _) => values[*left] < values[*right],
+            Compact::LessEqualNumber(left, right, _) => values[*left] <= *right,
+            Compact::LessEqualVariable(left, right, _) => values[*left] <= values[*right],
+            Compact::GreaterNumber(left, right, _) => values[*left] > *right,
+            Compact::GreaterVariable(left, right, _) => values[*left] > values[*right],
+            Compact::GreaterEqualNumber(left, right, _) => values[*left] >= *right,
+            Compact::GreaterEqualVariable(left, right, _) => values[*left] >= values[*right],
+            Compact::Other | Compact::Next | Compact::Jump(_) => false,
+            Compact::SetNumber(..) | Compact::SetVariable(..) | Compact::Item(..) => false,
+            Compact::SetItemNumber(..) | Compact::SetItemVariable(..) => false,
+            Compact::AddNumber(..) | Compact::AddVariable(..) => false,
+            Compact::SubtractNumber(..) | Compact::SubtractVariable(..) => false,
+            Compact::MultiplyNumber(..) | Compact::MultiplyVariable(..) => false,
+            Compact::DivideNumber(..) | Compact::DivideVariable(..) => false,
+            Compact::RemainderNumber(..) | Compact::RemainderVariable(..) => false,
+        }
+    }
+
+    // Where a test leads; the position behind it is read only where it doesn't hold.
+    #[inline(always)]
+    fn test(&self, compact: &Compact, position: usize, otherwise: &usize) -> Option<usize>
+        requires placed { IfSome (compact_line compact.now) (IsPlaced (length self.now.variables) (length self.now.arrays)) }
         requires position { position < 2 ^ 64 - 1 }
-        ensures next { result ≡ where_valued value (position + 1) }
-        ensures stored { self.new ≡ assigned self.old place value }
+        ensures { result ≡ where_valued (value self.now (test_expression (compact_line compact.now)))
+            (if is_true (value self.now (test_expression (compact_line compact.now))) then position + 1 else otherwise.now) }
+    {
+        if self.holds(compact) {
+            Some(position + 1)
+        } else {
+            Some(*otherwise)
+        }
+    }
+
+    // The value that a variable gets by a compact form. One that gives none has 0.
+    #[inline(always)]
+    fn let_value(&self, compact: &Compact) -> Result<i64, MachineFault>
+        requires placed { IfSome (compact_line compact.now) (IsPlaced (length self.now.variables) (length self.now.arrays)) }
+        ensures { result ≡ value self.now (let_expression (compact_line compact.now)) }
+    {
+        let values = &self.variables;
+        match compact {
+            Compact::SetNumber(_, number) => Ok(*number),
+            Compact::SetVariable(_, from) => Ok(values[*from]),
+            Compact::AddNumber(_, left, right) => sum(values[*left], *right),
+            Compact::AddVariable(_, left, right) => sum(values[*left], values[*right]),
+            Compact::SubtractNumber(_, left, right) => difference(values[*left], *right),
+            Compact::SubtractVariable(_, left, right) => difference(values[*left], values[*right]),
+            Compact::MultiplyNumber(_, left, right) => product(values[*left], *right),
+            Compact::MultiplyVariable(_, left, right) => product(values[*left], values[*right]),
+            Compact::DivideNumber(_, left, right) => quotient(values[*left], *right),
+            Compact::DivideVariable(_, left, right) => quotient(values[*left], values[*right]),
+            Compact::RemainderNumber(_, left, right) => remainder(values[*left], *right),
+            Compact::RemainderVariable(_, left, right) => remainder(values[*left], values[*right]),
+            Compact::Item(_, array, index) => self.arrays[*array].item_at(values[*index]),
+            Compact::Other | Compact::Next | Compact::Jump(_) => Ok(0),
+            Compact::SetItemNumber(..) | Compact::SetItemVariable(..) => Ok(0),
+            Compact::EqualNumber(..) | Compact::EqualVariable(..) => Ok(0),
+            Compact::NotEqualNumber(..) | Compact::NotEqualVariable(..) => Ok(0),
+            Compact::LessNumber(..) | Compact::LessVariable(..) => Ok(0),
+            Compact::LessEqualNumber(..) | Compact::LessEqualVariable(..) => Ok(0),
+            Compact::GreaterNumber(..) | Compact::GreaterVariable(..) => Ok(0),
+            Compact::GreaterEqualNumber(..) | Compact::GreaterEqualVariable(..) => Ok(0),
+        }
+    }
+
+    // A variable gets a value, and the next position follows. None if the value is a fault, and
+    // then nothing changes. So its place is read last, and takes no register before.
+    #[inline(always)]
+    fn assign(&mut self, place: &usize, compact: &Compact, position: usize) -> Option<usize>
+        requires place { place.now < length self.old.variables }
+        requires placed { IfSome (compact_line compact.now) (IsPlaced (length self.old.variables) (length self.old.arrays)) }
+        requires position { position < 2 ^ 64 - 1 }
+        ensures next { result ≡ where_valued (value self.old (let_expression (compact_line compact.now))) (position + 1) }
+        ensures stored { self.new ≡ assigned self.old place.now (value self.old (let_expression (compact_line compact.now))) }
         ensures variables { length self.new.variables ≡ length self.old.variables }
         ensures arrays { self.new.arrays ≡ self.old.arrays }
         ensures rank { self.new.rank < self.new.size }
     {
         // The rank is below the size by the invariant, and no step changes either.
         let _ = &self.rank;
-        let Ok(value) = value else {
+        let Ok(value) = self.let_value(compact) else {
             return None;
         };
-        self.variables[place] = value;
+        self.variables[*place] = value;
         Some(position + 1)
     }
 
-    // An item of an array gets a value, and the next position follows. None if there is no item at
-    // the index, and then nothing changes.
+    // The item of an array at a variable's index gets a value, and the next position follows. None
+    // if there is no item at the index, and then nothing changes.
     #[tactic(auto, using(crate::proofs::Lengths::same_lengths))]
     #[inline(always)]
-    fn set_item(&mut self, array: usize, index: i64, value: i64, position: usize) -> Option<usize>
+    fn set_item(
+        &mut self,
+        array: usize,
+        index: usize,
+        value: Operand,
+        position: usize,
+    ) -> Option<usize>
         requires array { array < length self.old.arrays }
+        requires index { index < length self.old.variables }
+        requires value { IsWithin (length self.old.variables) (length self.old.arrays) (operand_of value) }
         requires position { position < 2 ^ 64 - 1 }
-        ensures next { result ≡ where_valued (item_value self.old array (number index) (number value)) (position + 1) }
-        ensures stored { self.new ≡ item_assigned self.old array (item_value self.old array (number index) (number value)) }
+        ensures next { result ≡ where_valued (item_value self.old array (variable index) (operand_of value)) (position + 1) }
+        ensures stored { self.new ≡ item_assigned self.old array (item_value self.old array (variable index) (operand_of value)) }
         ensures lengths { map length self.new.arrays ≡ map length self.old.arrays }
         ensures variables { self.new.variables ≡ self.old.variables }
         ensures arrays { length self.new.arrays ≡ length self.old.arrays }
@@ -63,9 +139,10 @@ impl Store {
     {
         // The rank is below the size by the invariant, and no step changes either.
         let _ = &self.rank;
-        let Ok(index) = self.arrays[array].index_of(index) else {
+        let Ok(index) = self.arrays[array].index_of(self.variables[index]) else {
             return None;
         };
+        let value = self.operand(value);
         self.arrays[array].set(index, value);
         Some(position + 1)
     }
@@ -88,124 +165,37 @@ impl Store {
             Compact::Other => None,
             Compact::Next => Some(position + 1),
             Compact::Jump(next) => Some(*next),
-            Compact::SetNumber(place, number) => self.assign(*place, Ok(*number), position),
-            Compact::SetVariable(place, from) => {
-                let value = self.variables[*from];
-                self.assign(*place, Ok(value), position)
-            }
-            Compact::AddNumber(place, left, right) => {
-                let value = sum(self.variables[*left], *right);
-                self.assign(*place, value, position)
-            }
-            Compact::AddVariable(place, left, right) => {
-                let value = sum(self.variables[*left], self.variables[*right]);
-                self.assign(*place, value, position)
-            }
-            Compact::SubtractNumber(place, left, right) => {
-                let value = difference(self.variables[*left], *right);
-                self.assign(*place, value, position)
-            }
-            Compact::SubtractVariable(place, left, right) => {
-                let value = difference(self.variables[*left], self.variables[*right]);
-                self.assign(*place, value, position)
-            }
-            Compact::MultiplyNumber(place, left, right) => {
-                let value = product(self.variables[*left], *right);
-                self.assign(*place, value, position)
-            }
-            Compact::MultiplyVariable(place, left, right) => {
-                let value = product(self.variables[*left], self.variables[*right]);
-                self.assign(*place, value, position)
-            }
-            Compact::DivideNumber(place, left, right) => {
-                let value = quotient(self.variables[*left], *right);
-                self.assign(*place, value, position)
-            }
-            Compact::DivideVariable(place, left, right) => {
-                let value = quotient(self.variables[*left], self.variables[*right]);
-                self.assign(*place, value, position)
-            }
-            Compact::RemainderNumber(place, left, right) => {
-                let value = remainder(self.variables[*left], *right);
-                self.assign(*place, value, position)
-            }
-            Compact::RemainderVariable(place, left, right) => {
-                let value = remainder(self.variables[*left], self.variables[*right]);
-                self.assign(*place, value, position)
-            }
-            Compact::Item(place, array, index) => {
-                let value = self.arrays[*array].item_at(self.variables[*index]);
-                self.assign(*place, value, position)
-            }
-            Compact::SetItemNumber(array, index, number) => {
-                let index = self.variables[*index];
-                self.set_item(*array, index, *number, position)
+            Compact::SetNumber(place, _)
+            | Compact::SetVariable(place, _)
+            | Compact::AddNumber(place, _, _)
+            | Compact::AddVariable(place, _, _)
+            | Compact::SubtractNumber(place, _, _)
+            | Compact::SubtractVariable(place, _, _)
+            | Compact::MultiplyNumber(place, _, _)
+            | Compact::MultiplyVariable(place, _, _)
+            | Compact::DivideNumber(place, _, _)
+            | Compact::DivideVariable(place, _, _)
+            | Compact::RemainderNumber(place, _, _)
+            | Compact::RemainderVariable(place, _, _)
+            | Compact::Item(place, _, _) => self.assign(place, compact, position),
+            Compact::SetItemNumber(array, index, value) => {
+                self.set_item(*array, *index, Operand::Number(*value), position)
             }
             Compact::SetItemVariable(array, index, from) => {
-                let index = self.variables[*index];
-                let value = self.variables[*from];
-                self.set_item(*array, index, value, position)
+                self.set_item(*array, *index, Operand::Variable(*from), position)
             }
-            Compact::EqualNumber(left, right, otherwise) => {
-                branch(self.variables[*left] == *right, position, *otherwise)
-            }
-            Compact::EqualVariable(left, right, otherwise) => {
-                branch(
-                    self.variables[*left] == self.variables[*right],
-                    position,
-                    *otherwise,
-                )
-            }
-            Compact::NotEqualNumber(left, right, otherwise) => {
-                branch(self.variables[*left] != *right, position, *otherwise)
-            }
-            Compact::NotEqualVariable(left, right, otherwise) => {
-                branch(
-                    self.variables[*left] != self.variables[*right],
-                    position,
-                    *otherwise,
-                )
-            }
-            Compact::LessNumber(left, right, otherwise) => {
-                branch(self.variables[*left] < *right, position, *otherwise)
-            }
-            Compact::LessVariable(left, right, otherwise) => {
-                branch(
-                    self.variables[*left] < self.variables[*right],
-                    position,
-                    *otherwise,
-                )
-            }
-            Compact::LessEqualNumber(left, right, otherwise) => {
-                branch(self.variables[*left] <= *right, position, *otherwise)
-            }
-            Compact::LessEqualVariable(left, right, otherwise) => {
-                branch(
-                    self.variables[*left] <= self.variables[*right],
-                    position,
-                    *otherwise,
-                )
-            }
-            Compact::GreaterNumber(left, right, otherwise) => {
-                branch(self.variables[*left] > *right, position, *otherwise)
-            }
-            Compact::GreaterVariable(left, right, otherwise) => {
-                branch(
-                    self.variables[*left] > self.variables[*right],
-                    position,
-                    *otherwise,
-                )
-            }
-            Compact::GreaterEqualNumber(left, right, otherwise) => {
-                branch(self.variables[*left] >= *right, position, *otherwise)
-            }
-            Compact::GreaterEqualVariable(left, right, otherwise) => {
-                branch(
-                    self.variables[*left] >= self.variables[*right],
-                    position,
-                    *otherwise,
-                )
-            }
+            Compact::EqualNumber(_, _, unmet)
+            | Compact::EqualVariable(_, _, unmet)
+            | Compact::NotEqualNumber(_, _, unmet)
+            | Compact::NotEqualVariable(_, _, unmet)
+            | Compact::LessNumber(_, _, unmet)
+            | Compact::LessVariable(_, _, unmet)
+            | Compact::LessEqualNumber(_, _, unmet)
+            | Compact::LessEqualVariable(_, _, unmet)
+            | Compact::GreaterNumber(_, _, unmet)
+            | Compact::GreaterVariable(_, _, unmet)
+            | Compact::GreaterEqualNumber(_, _, unmet)
+            | Compact::GreaterEqualVariable(_, _, unmet) => self.test(compact, position, unmet),
         }
     }
 }
