@@ -86,9 +86,11 @@ impl Backlog {
         let number = packet.number;
         // what is at most the base was let go before it was sent
         if self.base < number {
-            if let Err(refused) = self.packets.push_back(packet) {
-                return Err(refused.value);
+            // (a push that can't hand the packet back moves it once less)
+            if self.packets.reserve(1).is_err() {
+                return Err(packet);
             }
+            self.packets.push_back_reserved(packet);
         }
         self.sent = number;
         Ok(())
