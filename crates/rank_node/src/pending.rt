@@ -70,11 +70,13 @@ impl Pending {
 
     /// An event goes last. An `Err` means out of memory.
     #[tactic(auto, using(crate::proofs::Gates::effects_push, crate::proofs::Gates::begins_push))]
+    #[inline(always)]
     pub fn push_event(&mut self, event: Event) -> Result<(), AllocError>
         ensures ok { OnOk result (self.new ≡ record { waiting = self.old.waiting ++ waits.Event event ∷ []; stored = self.old.stored }) }
         ensures err { OnErr result (self.new ≡ self.old) }
     {
-        self.waiting.push_back(Waiting::Event(event))?;
+        self.waiting.reserve(1)?;
+        self.waiting.push_back_reserved(Waiting::Event(event));
         Ok(())
     }
 
