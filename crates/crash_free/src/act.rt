@@ -3,8 +3,7 @@ ghost use Rattle.std.specs.Prelude.{◌≡◌, IfOk};
 ghost use Rattle.crash_free.specs.Seen.{act_of};
 
 use crate::choice::Choice;
-use limits::Heap;
-use matching::Context;
+use matching::{Context, PacketItems};
 use std::alloc::AllocError;
 use std::marker::Model;
 
@@ -18,7 +17,7 @@ pub enum Act {
         dest: u8,
         context: Context,
         tag: u16,
-        items: Vec<i64, Heap>,
+        items: PacketItems,
     },
     /// A receive took the message.
     Takes {
@@ -89,7 +88,7 @@ impl Passed {
         dest: u8,
         context: Context,
         tag: u16,
-        items: Vec<i64, Heap>,
+        items: PacketItems,
     ) -> Passed
         ensures { result ≡ record { rank = rank; act = acts.sends dest context tag items.items } }
     {
@@ -155,7 +154,7 @@ fn copied(act: &Act) -> Result<Act, AllocError>
             dest: *dest,
             context: *context,
             tag: *tag,
-            items: items.as_slice().to_vec(*items.allocator())?,
+            items: PacketItems::from_slice(*items.allocator(), items.as_slice())?,
         },
         Act::Takes { source, place } => Act::Takes {
             source: *source,

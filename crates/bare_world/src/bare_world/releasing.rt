@@ -10,6 +10,7 @@ use crate::reply::Reply;
 use checkpoint::MemoryShelf;
 use crash_free::Act;
 use limits::Heap;
+use matching::PacketItems;
 use rank_node::{Running, Waiting};
 use std::alloc::AllocError;
 
@@ -62,7 +63,7 @@ fn released_act(
         Waiting::Event(_) => unreachable!(),
         Waiting::Send { dest, clock } => match running.oldest_held(dest) {
             Some(packet) => {
-                let items = packet.payload.as_slice().to_vec(alloc)?;
+                let items = PacketItems::from_slice(alloc, packet.payload.as_slice())?;
                 let act = Act::Sends {
                     dest,
                     context: packet.context,

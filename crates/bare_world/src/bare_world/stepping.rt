@@ -95,11 +95,7 @@ fn effect_of(
             dest,
             context,
             tag,
-            items: running
-                .machine()
-                .payload_with(alloc, wanted.item)?
-                .as_slice()
-                .to_vec(alloc)?,
+            items: running.machine().payload_with(alloc, wanted.item)?,
         })),
         Want::Print(value) => Ok(Some(Act::Prints(value))),
         Want::Internal => Ok(None),

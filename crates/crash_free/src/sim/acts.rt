@@ -71,7 +71,7 @@ impl Sim<'_> {
         let machine = &mut self.machines[usize::from(rank)];
         let payload = machine.payload(self.alloc)?;
         // the run keeps the items for good, the packet until it is taken
-        let items = payload.as_slice().to_vec(self.alloc)?;
+        let items = PacketItems::from_slice(self.alloc, payload.as_slice())?;
         let packet = packet(rank, context, tag, payload);
         self.mail.post(rank, dest, packet)?;
         law_makes_its_send(machine);

@@ -20,7 +20,7 @@ invariant_of-self-2 c =
         c.in_ok-reserve.ensures.items,
         c.sends-act.ensures,
         run_push c.self.inside.passed.items _,
-        c.in_ok-items.ensures.items_if_clones_equal (λ x y same. same),
+        c.in_ok-items.ensures.ok,
         c.as_slice.ensures,
         c.in_ok-payload.ensures.items,
       ) done.kept,
@@ -42,7 +42,7 @@ returns-clause-ok c =
       c.in_ok-reserve.ensures.items,
       c.sends-act.ensures,
       run_push c.self.inside.passed.items _,
-      c.in_ok-items.ensures.items_if_clones_equal (λ x y same. same),
+      c.in_ok-items.ensures.ok,
       c.as_slice.ensures,
       c.in_ok-payload.ensures.items,
     ) done.allowed
