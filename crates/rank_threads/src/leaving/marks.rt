@@ -37,14 +37,24 @@ impl Mark {
         self.taken.store(taken.saturating_add(1), Ordering::SeqCst);
     }
 
+    fn is_set(&self) -> bool {
+        self.taken.load(Ordering::SeqCst) > 0
+    }
+
     /// The rank is at work.
     pub fn take_back(&self) {
         self.taken.store(0, Ordering::SeqCst);
     }
 }
 
-/// The marks of all ranks, where all are set.
+/// The marks of all ranks, where all are set. Ranks begin in their order, so the mark that is set
+/// last is mostly that of the last rank: while it isn't, none but that one is looked at.
 pub fn first_look(marks: &[CachePadded<Mark>]) -> Option<Look> {
+    if let Some(last) = marks.last() {
+        if !last.is_set() {
+            return None;
+        }
+    }
     let mut seen = [0u64; MOST_RANKS];
     let mut taken = 0u64;
     for (mark, slot) in marks.iter().zip(seen.iter_mut()) {
