@@ -36,7 +36,7 @@ ends_rise k (e ∷ events) (suc i) zero le low = absurd (omega (arith, le))
 ends_rise k (e ∷ events) (suc i) (suc j) le low = ends_rise (k + count_of e) events i j (omega (arith, le)) (omega (arith, low))
 
 -- one event more
-pub ends_push : (k : ℕ) (events : List EventValue) (e : EventValue)
+ends_push : (k : ℕ) (events : List EventValue) (e : EventValue)
     → ends_from k (events ++ e ∷ []) ≡ ends_from k events ++ (k + length (expand events) + count_of e) ∷ []
 ends_push k [] e = (let z : k + count_of e ≡ k + 0 + count_of e = omega arith in ap (λ n. n ∷ []) z)
 ends_push k (x ∷ events) e =

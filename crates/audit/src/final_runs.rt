@@ -7,4 +7,4 @@ mod stalled;
 
 pub use confirming::{Final, confirm, confirmed_run, confirmed_run_on};
 pub use fault::FinalFault;
-pub use outcome::{RankEnd, has_lines, outcome_of};
+pub use outcome::{RankEnd, has_lines, rank_end};

@@ -6,32 +6,35 @@ use Rattle.matching.specs.declared.selector.Selector.{Selector}
 use Rattle.rank_machine.specs.States.{State}
 use Rattle.rank_machine.specs.Wants.{wants}
 use Rattle.rank_machine.specs.Acts.{Act, Message, takes, hits}
-use Rattle.crash_free.specs.Runs.{Passed, History, history, sent, IsEligible, IsFree, MayMake, IsRun, receives, probes}
+use Rattle.crash_free.specs.Runs.{Passed, History, history, sent, IsEligible, IsFree, MayMake, receives, probes}
+use Rattle.explore.specs.Sending.{IsRunUnder}
 use Rattle.std.specs.Prelude.{IsSomeAnd}
 use Rattle.crash_free.specs.Alike.{StandAlike, IsPartner, sends_too, takes_too, hits_too, misses_too, prints_too}
-use Rattle.crash_free.proofs.Alike.{alike_back, each_follows_too}
+use Rattle.crash_free.proofs.Alike.{alike_back}
 use Rattle.explore.specs.AndThen.{and_then}
 use Rattle.explore.specs.Persistent.{GoesOnWithout, there, further, IsPersistent}
-use Rattle.audit.specs.FinalRuns.Maximal.{MayFollow}
+use Rattle.explore.specs.Sending.{MayFollowUnder}
 use Rattle.explore.proofs.Alone.{without_part}
 use Rattle.explore.proofs.Exploring.{follows_both}
 use Rattle.explore.proofs.Fixed.{one_eligible, same_state}
+use Rattle.explore.specs.declared.send_mode.SendMode.{SendMode}
+use Rattle.explore.proofs.Sending.{partner_under}
 
 -- A run to which others than rank r go on from Q, and that stands alike with one to which they go on from the first.
-record OnwardWithout (start : ℕ → State) (n r : ℕ) (Q C : List Passed) : Type 0 where
+record OnwardWithout (mode : SendMode) (start : ℕ → State) (n r : ℕ) (Q C : List Passed) : Type 0 where
   run : List Passed
-  is_run : IsRun start n run
-  onward : GoesOnWithout start n r Q run
+  is_run : IsRunUnder mode start n run
+  onward : GoesOnWithout mode start n r Q run
   alike : StandAlike start n C run
 
 -- for each run to which they go on from the first there is one
-without_too : (start : ℕ → State) (n r : ℕ) (P Q C : List Passed) → IsRun start n P → IsRun start n Q → StandAlike start n P Q
-    → GoesOnWithout start n r P C → OnwardWithout start n r Q C
-without_too start n r P Q C run run' alike there = record { run = Q; is_run = run'; onward = there; alike = alike }
-without_too start n r P Q C run run' alike (further q act other may on) =
-    let f = each_follows_too start n P Q run run' alike q act may.0 may.1 in
-    let next = without_too start n r (and_then P q act) (and_then Q q f.other) C (run, may.0, may.1) (run', may.0, f.may) f.alike on in
-    record { run = next.run; is_run = next.is_run; onward = further q f.other other (may.0, f.may) next.onward; alike = next.alike }
+without_too : (mode : SendMode) → (start : ℕ → State) (n r : ℕ) (P Q C : List Passed) → IsRunUnder mode start n P → IsRunUnder mode start n Q → StandAlike start n P Q
+    → GoesOnWithout mode start n r P C → OnwardWithout mode start n r Q C
+without_too mode start n r P Q C run run' alike there = record { run = Q; is_run = run'; onward = there; alike = alike }
+without_too mode start n r P Q C run run' alike (further q act other may on) =
+    let f = partner_under mode start n P Q run run' alike q act may.0 may.1 may.2 in
+    let next = without_too mode start n r (and_then P q act) (and_then Q q f.other) C (run, may.0, may.1, may.2) (run', may.0, f.may, f.released) f.alike on in
+    record { run = next.run; is_run = next.is_run; onward = further q f.other other (may.0, f.may, f.released) next.onward; alike = next.alike }
 
 -- of one source one message is eligible, if one is for what a rank wants
 one_place : (o : Option Selector) (inbound : ℕ → List Message) (h : History) (s i j : ℕ) → IsSomeAnd o (λ w. IsEligible inbound h s i w)
@@ -57,19 +60,19 @@ same_partner start inbound h a b c misses_too misses_too may may' = refl
 same_partner start inbound h a b c prints_too prints_too may may' = refl
 
 -- what a rank may make it may make by another name
-same_follows : (start : ℕ → State) (n : ℕ) (Q : List Passed) (r : ℕ) (a b : Act) → a ≡ b → MayFollow start n Q r b → MayFollow start n Q r a
-same_follows start n Q r a b e may = subst (λ z. MayFollow start n Q r z) (sym e) may
+same_follows : (mode : SendMode) → (start : ℕ → State) (n : ℕ) (Q : List Passed) (r : ℕ) (a b : Act) → a ≡ b → MayFollowUnder mode start n Q r b → MayFollowUnder mode start n Q r a
+same_follows mode start n Q r a b e may = subst (λ z. MayFollowUnder mode start n Q r z) (sym e) may
 
 -- so the acts of a rank that are persistent after P are so after Q
-pub persistent_too : (start : ℕ → State) (n : ℕ) (P Q : List Passed) (r : ℕ) → IsRun start n P → IsRun start n Q → StandAlike start n P Q
-    → IsPersistent start n P r → IsPersistent start n Q r
-persistent_too start n P Q r run run' alike persistent C act onward may =
-    let is = without_part start n r Q C run' onward in
-    let next = without_too start n r Q P C run' run (alike_back start n P Q alike) onward in
-    let then = each_follows_too start n C next.run is.is_run next.is_run next.alike r act may.0 may.1 in
-    let now = persistent next.run then.other next.onward (may.0, then.may) in
-    let back = each_follows_too start n P Q run run' alike r then.other now.0 now.1 in
-    let still = follows_both start n Q C r back.other is.part is.same (now.0, back.may) in
+pub persistent_too : (mode : SendMode) → (start : ℕ → State) (n : ℕ) (P Q : List Passed) (r : ℕ) → IsRunUnder mode start n P → IsRunUnder mode start n Q → StandAlike start n P Q
+    → IsPersistent mode start n P r → IsPersistent mode start n Q r
+persistent_too mode start n P Q r run run' alike persistent C act onward may =
+    let is = without_part mode start n r Q C run' onward in
+    let next = without_too mode start n r Q P C run' run (alike_back start n P Q alike) onward in
+    let then = partner_under mode start n C next.run is.is_run next.is_run next.alike r act may.0 may.1 may.2 in
+    let now = persistent next.run then.other next.onward (may.0, then.may, then.released) in
+    let back = partner_under mode start n P Q run run' alike r then.other now.0 now.1 now.2 in
+    let still = follows_both mode start n Q C r back.other is.part is.same (now.0, back.may, back.released) in
     let same : act ≡ back.other =
     same_partner (start r) (λ s. sent C s r) (history C r) act then.other back.other then.partner back.partner may.1 still.0.1 in
-    same_follows start n Q r act back.other same (now.0, back.may)
+    same_follows mode start n Q r act back.other same (now.0, back.may, back.released)

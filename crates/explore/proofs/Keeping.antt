@@ -8,6 +8,11 @@ use Rattle.explore.specs.declared.moves.Move.{Move}
 use Rattle.explore.specs.Narrowing.{is_of, ArePersistent, AreKept}
 use Rattle.explore.specs.Moves.{move_of, HasAllOf, HasAll, AreOfRanks}
 use Rattle.explore.specs.Outcomes.{IsAmong, AreDistinct}
+use Rattle.explore.specs.declared.send_mode.SendMode.{SendMode}
+use Rattle.crash_free.specs.Sim.{start_of}
+use Rattle.explore.specs.Sending.{IsReleasedAt}
+use Rattle.explore.specs.declared.send_mode.SendMode.TheVariants.{Buffered}
+use Rattle.explore.proofs.Sending.{persistent_under}
 
 -- Some that pass a test
 
@@ -44,6 +49,16 @@ module _ {A : Type 0} (p : A → Bool) where
           subst (λ b. IsAmong (cond b (y ∷ filter p ys) (filter p ys)) x) (sym (subst (λ z. p z ≡ true) same passes)) (zero, at)
       go rest (suc i) at = later (p y) (rest i at)
 
+  -- one of them passes, if any does
+  pub some_of : (xs : List A) → list_any p xs ≡ true → (x : A) × IsAmong xs x × (p x ≡ true)
+  some_of [] e = absurd (let q : false ≡ true = e in cc)
+  some_of (y ∷ ys) e = by (λ q. some_of ys q) (p y) refl e
+    where
+      by : (list_any p ys ≡ true → (x : A) × IsAmong ys x × (p x ≡ true)) → (b : Bool) → p y ≡ b → (b || list_any p ys) ≡ true
+          → (x : A) × IsAmong (y ∷ ys) x × (p x ≡ true)
+      by rest true q f = (y, (zero, refl), q)
+      by rest false q f = (let r = rest f in (r.0, (suc r.1.0, r.1.1), r.2))
+
   -- one is kept, if one passes
   pub some_kept : (xs : List A) → list_any p xs ≡ true → 0 < length (filter p xs)
   some_kept [] e = absurd (let q : false ≡ true = e in cc)
@@ -79,16 +94,16 @@ module _ {A : Type 0} (p : A → Bool) where
 
 -- The moves are enough to go on with: there is one for each act that may be made next; or they are those of one rank, whose acts are persistent, and
 -- there is one for each act that it may make.
-abbrev pub Suffice : SimValue → List Move → Type 0
-Suffice s moves = HasAll s moves ⊎ ((r : ℕ) × ArePersistent s r × HasAllOf s moves r × ((m : Move) → IsAmong moves m → m.rank ≡ r))
+abbrev pub Suffice : SendMode → SimValue → List Move → Type 0
+Suffice mode s moves = HasAll mode s moves ⊎ ((r : ℕ) × ArePersistent mode s r × HasAllOf mode s moves r × ((m : Move) → IsAmong moves m → m.rank ≡ r))
 
-module _ (s : SimValue) (moves kept : List Move) (are : AreKept s moves kept) where
+module _ (mode : SendMode) (s : SimValue) (moves kept : List Move) (are : AreKept mode s moves kept) where
   -- so are those that are kept, if all are open
-  pub suffice_kept : HasAll s moves → Suffice s kept
+  pub suffice_kept : HasAll mode s moves → Suffice mode s kept
   suffice_kept all = go are
     where
-      go : AreKept s moves kept → Suffice s kept
-      go (inl same) = inl (subst (λ ms. HasAll s ms) (sym same) all)
+      go : AreKept mode s moves kept → Suffice mode s kept
+      go (inl same) = inl (subst (λ ms. HasAll mode s ms) (sym same) all)
       go (inr one) =
           inr (
             one.0,
@@ -103,23 +118,37 @@ module _ (s : SimValue) (moves kept : List Move) (are : AreKept s moves kept) wh
   pub kept_before : (m : Move) → IsAmong kept m → IsAmong moves m
   kept_before m a = go are
     where
-      go : AreKept s moves kept → IsAmong moves m
+      go : AreKept mode s moves kept → IsAmong moves m
       go (inl same) = subst (λ ms. IsAmong ms m) same a
       go (inr one) = (among_kept (is_of one.0) moves m (subst (λ ms. IsAmong ms m) one.2 a)).0
 
-  pub ranks_kept : AreOfRanks s moves → AreOfRanks s kept
+  pub ranks_kept : AreOfRanks mode s moves → AreOfRanks mode s kept
   ranks_kept acts m a = acts m (kept_before m a)
 
   pub once_kept : AreDistinct moves → AreDistinct kept
   once_kept once = go are
     where
-      go : AreKept s moves kept → AreDistinct kept
+      go : AreKept mode s moves kept → AreDistinct kept
       go (inl same) = subst (λ ms. AreDistinct ms) (sym same) once
       go (inr one) = subst (λ ms. AreDistinct ms) (sym one.2) (distinct_kept (is_of one.0) moves once)
 
   pub one_kept : 0 < length moves → 0 < length kept
   one_kept some = go are
     where
-      go : AreKept s moves kept → 0 < length kept
+      go : AreKept mode s moves kept → 0 < length kept
       go (inl same) = subst (λ ms. 0 < length ms) (sym same) some
       go (inr one) = subst (λ ms. 0 < length ms) (sym one.2) (some_kept (is_of one.0) moves one.1.1)
+
+-- what is kept where no send waits is kept by the mode: no send holds a rank that has moves
+pub kept_under : (mode : SendMode) → (s : SimValue) (moves kept : List Move) → AreOfRanks mode s moves → AreKept Buffered s moves kept
+    → AreKept mode s moves kept
+kept_under mode s moves kept acts (inl same) = inl same
+kept_under mode s moves kept acts (inr one) =
+    let some = some_of (is_of one.0) moves one.1.1 in
+    let may = (acts some.0 some.1).2 in
+    let free : IsReleasedAt mode s one.0 = subst (λ q. IsReleasedAt mode s q) (eqb-true some.0.rank one.0 some.2) may.1.2 in
+    inr (
+      one.0,
+      (persistent_under mode (start_of s.program (length s.machines)) (length s.machines) s.run one.0 free one.1.0, one.1.1),
+      one.2,
+    )

@@ -7,6 +7,7 @@ use Rattle.crash_free.specs.Standing.{Rows, no_rows, and_number, StandsAt}
 use Rattle.crash_free.proofs.Appending.{ranks_behind}
 use Rattle.explore.specs.Closing.{MeetsOne}
 use Rattle.explore.specs.Met.{Kept, StandsBy}
+use Rattle.explore.specs.declared.send_mode.SendMode.{SendMode}
 
 -- the first number
 abbrev first_number : List ℕ → ℕ
@@ -36,9 +37,9 @@ begins_with program n C rows at =
     ap (λ (z : Rows). first_number z.numbers) (sym at.written ∙ ranks_behind at.table s (and_number no_rows (length C)) (length at.machines))
 
 -- so no run that meets one is longer than all of them together
-pub none_longer : (program : ProgramValue) (n : ℕ) (met : Kept) → met.closes ≡ false → (m : List Passed) → MeetsOne program n met m
+pub none_longer : (mode : SendMode) → (program : ProgramValue) (n : ℕ) (met : Kept) → met.closes ≡ false → (m : List Passed) → MeetsOne mode program n met m
     → length m ≤ longest met.states
-none_longer program n met none m a =
+none_longer mode program n met none m a =
     let at : StandsBy false program n a.run a.stood.0 = subst (λ closes. StandsBy closes program n a.run a.stood.0) none a.stood.2 in
     let low = one_of_them met.states a.stood.1.0 a.stood.0 a.stood.1.1 in
     let size = begins_with program n a.run a.stood.0 at in

@@ -17,7 +17,8 @@ use Rattle.rank_machine.specs.Acts.{Act, Message, sends, takes, hits, misses, pr
 use Rattle.rank_machine.specs.Machine.{MachineValue, state_of}
 use Rattle.rank_machine.proofs.Determined.{still, same_stop, same_runs}
 use Rattle.crash_free.specs.Grows.{Grows, Extends}
-use Rattle.crash_free.specs.Runs.{Passed, History, at_place, history, sent, sends_from, looked_up, taken, receives, probes, IsEligible, IsFree, MayMake, IsRun}
+use Rattle.crash_free.specs.Runs.{Passed, History, at_place, history, sent, sends_from, looked_up, taken, receives, probes, IsEligible, IsFree, MayMake}
+use Rattle.crash_free.specs.Runs.{IsRun}
 use Rattle.crash_free.specs.Sim.{SimValue, Simulates, start_of, inbound_of}
 use Rattle.crash_free.specs.Wanted.{Wants, WantsAt}
 use Rattle.crash_free.proofs.Lists.{at_place-append}
@@ -32,16 +33,18 @@ use Rattle.explore.proofs.Fixed.{one_eligible}
 use Rattle.explore.proofs.Same.{grows_on}
 use Rattle.audit.proofs.Offering.{no_inner}
 use Rattle.audit.proofs.Reaching.{some_there}
+use Rattle.explore.specs.declared.send_mode.SendMode.TheVariants.{Buffered}
+use Rattle.explore.proofs.Sending.{buffered}
 
 -- How other ranks go on
 
 -- to a run
-run_on : (start : ℕ → State) (n r : ℕ) {P C : List Passed} → GoesOnWithout start n r P C → IsRun start n P → IsRun start n C
+run_on : (start : ℕ → State) (n r : ℕ) {P C : List Passed} → GoesOnWithout Buffered start n r P C → IsRun start n P → IsRun start n C
 run_on start n r there run = run
 run_on start n r (further q act apart may more) run = run_on start n r more (run, may.0, may.1)
 
 -- that extends the one before, as this rank makes no act
-extends_on : (start : ℕ → State) (n r : ℕ) {P C : List Passed} → GoesOnWithout start n r P C → Extends r P C
+extends_on : (start : ℕ → State) (n r : ℕ) {P C : List Passed} → GoesOnWithout Buffered start n r P C → Extends r P C
 extends_on start n r {P = P} there = record { same = refl; grows = λ s. ([], sym (append-nil (sent P s r))) }
 extends_on start n r {P = P} {C = C} (further q act apart may more) =
     let one = Extends-by_other r P (record { rank = q; act = act }) apart in
@@ -154,7 +157,7 @@ Selects w x = (receives w ≡ Some x) ⊎ (probes w ≡ Some x)
 -- so where all sources are settled, each act that the rank may make then it may make now
 persists : (s : SimValue) (r : ℕ) (w : Want) → Simulates s → WantsAt s.machines r w → w ≢ want.Internal
     → ((x : Selector) → Selects w x → (q : ℕ) → IsSettled s r x q)
-    → IsPersistent (start_of s.program (length s.machines)) (length s.machines) s.run r
+    → IsPersistent Buffered (start_of s.program (length s.machines)) (length s.machines) s.run r
 persists s r w now asked apart settled C act way may = (
   may.0,
   record {
@@ -165,6 +168,7 @@ persists s r w now asked apart settled C act way may = (
     makes = subst (λ o. Makes k.stands act o) free.1 k.makes;
     free = subst (λ v. IsFree v act (inbound_of s.run r) (history s.run r)) (sym wants_this) free.0;
   },
+  buffered (length s.machines) s.run r,
 )
   where
     x : Extends r s.run C
@@ -202,7 +206,7 @@ module _ (s : SimValue) (r : ℕ) (now : Simulates s) where
     by_selector x same q = subst (λ y. IsSettled s r y q) (sym same) (all said_so q)
 
     -- so of a receive
-    pub persists_receive : WantsAt s.machines r (want.Receive w) → IsPersistent (start_of s.program (length s.machines)) (length s.machines) s.run r
+    pub persists_receive : WantsAt s.machines r (want.Receive w) → IsPersistent Buffered (start_of s.program (length s.machines)) (length s.machines) s.run r
     persists_receive asked = persists s r (want.Receive w) now asked (λ e. cc) go
       where
         go : (x : Selector) → Selects (want.Receive w) x → (q : ℕ) → IsSettled s r x q
@@ -210,7 +214,7 @@ module _ (s : SimValue) (r : ℕ) (now : Simulates s) where
         go x (inr e) = absurd cc
 
     -- of a probe that waits
-    pub persists_probe : WantsAt s.machines r (want.Probe w) → IsPersistent (start_of s.program (length s.machines)) (length s.machines) s.run r
+    pub persists_probe : WantsAt s.machines r (want.Probe w) → IsPersistent Buffered (start_of s.program (length s.machines)) (length s.machines) s.run r
     persists_probe asked = persists s r (want.Probe w) now asked (λ e. cc) go
       where
         go : (x : Selector) → Selects (want.Probe w) x → (q : ℕ) → IsSettled s r x q
@@ -218,7 +222,7 @@ module _ (s : SimValue) (r : ℕ) (now : Simulates s) where
         go x (inr e) = by_selector x (cc)
 
     -- and of one that doesn't, which may miss whatever was sent
-    pub persists_try : WantsAt s.machines r (want.TryProbe w) → IsPersistent (start_of s.program (length s.machines)) (length s.machines) s.run r
+    pub persists_try : WantsAt s.machines r (want.TryProbe w) → IsPersistent Buffered (start_of s.program (length s.machines)) (length s.machines) s.run r
     persists_try asked = persists s r (want.TryProbe w) now asked (λ e. cc) go
       where
         go : (x : Selector) → Selects (want.TryProbe w) x → (q : ℕ) → IsSettled s r x q
@@ -252,7 +256,7 @@ module _ (s : SimValue) (r : ℕ) (now : Simulates s) where
 
   -- of a rank that asks for no message
   pub persists_unasked : (w : Want) → WantsAt s.machines r w → AsksForNone w
-      → IsPersistent (start_of s.program (length s.machines)) (length s.machines) s.run r
+      → IsPersistent Buffered (start_of s.program (length s.machines)) (length s.machines) s.run r
   persists_unasked w asked none =
       persists s r w now asked (λ e. (let z : AsksForNone want.Internal = subst AsksForNone e none in z))
       (λ x selects. absurd (selects_none w x none selects))

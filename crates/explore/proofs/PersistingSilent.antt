@@ -31,6 +31,7 @@ use Rattle.explore.specs.declared.silences.silence.Silence.{Silence}
 use Rattle.explore.specs.declared.silences.sought.Sought.{Sought}
 use Rattle.explore.proofs.SilentSteps.{Keeps, inners_keep, runs_keep}
 use Rattle.audit.proofs.Reaching.{some_there}
+use Rattle.explore.specs.declared.send_mode.SendMode.TheVariants.{Buffered}
 
 -- what is wanted is nothing more
 abbrev pub HasEnded : Want → Type 0
@@ -179,7 +180,7 @@ module _ (r : ℕ) (context : Context) (tag : Option ℕ) where
 
   module _ (start : ℕ → State) (n q place : ℕ) (m : Message) (kind : IsSought m) where
     -- so however the ranks go on, such a message that it has sent then it has sent before
-    sent_stays : {P C : List Passed} → GoesOnWithout start n r P C → SilentAfter (start q) (history P q) → at_place (sent C q r) place ≡ Some m
+    sent_stays : {P C : List Passed} → GoesOnWithout Buffered start n r P C → SilentAfter (start q) (history P q) → at_place (sent C q r) place ≡ Some m
         → at_place (sent P q r) place ≡ Some m
     sent_stays there x found = found
     sent_stays {P = P} {C = C} (further p act apart may more) x found = by_rank (λ y. sent_stays more y found) (cases_eq p q)

@@ -17,72 +17,73 @@ use Rattle.explore.proofs.Searching.{Moves, plays_along, plays_nothing, remember
 use Rattle.explore.proofs.Small.{keeps_nothing}
 use Rattle.explore.proofs.Sparing.{along_enough, moves_enough}
 use Rattle.explore.proofs.Stems.{off_behind, stems_behind}
+use Rattle.explore.specs.declared.send_mode.SendMode.{SendMode}
 
 -- branches that go off a run by the ranks of one simulation do by those of another of the same program
-pub off_by : (s s' : SimValue) (C : List Passed) (pending : List Branch) → IsAlike s s' → GoOff s'.program (length s'.machines) C pending
-    → GoOff s.program (length s.machines) C pending
-off_by s s' C pending alike off =
-    subst (λ n. GoOff s.program n C pending) alike.ranks (subst (λ p. GoOff p (length s'.machines) C pending) alike.program off)
+pub off_by : (mode : SendMode) → (s s' : SimValue) (C : List Passed) (pending : List Branch) → IsAlike s s' → GoOff mode s'.program (length s'.machines) C pending
+    → GoOff mode s.program (length s.machines) C pending
+off_by mode s s' C pending alike off =
+    subst (λ n. GoOff mode s.program n C pending) alike.ranks (subst (λ p. GoOff mode p (length s'.machines) C pending) alike.program off)
 
 -- the other way
-pub off_of : (s s' : SimValue) (C : List Passed) (pending : List Branch) → IsAlike s s' → GoOff s.program (length s.machines) C pending
-    → GoOff s'.program (length s'.machines) C pending
-off_of s s' C pending alike off =
-    subst (λ n. GoOff s'.program n C pending) (sym alike.ranks) (subst (λ p. GoOff p (length s.machines) C pending) (sym alike.program) off)
+pub off_of : (mode : SendMode) → (s s' : SimValue) (C : List Passed) (pending : List Branch) → IsAlike s s' → GoOff mode s.program (length s.machines) C pending
+    → GoOff mode s'.program (length s'.machines) C pending
+off_of mode s s' C pending alike off =
+    subst (λ n. GoOff mode s'.program n C pending) (sym alike.ranks) (subst (λ p. GoOff mode p (length s.machines) C pending) (sym alike.program) off)
 
 -- A run went on from the first simulation to the second, with what was left before it and now, and where runs stood before it and by now.
-pub record HasCome (s : SimValue) (old : List Stem) (s' : SimValue) (pending : List Branch) (before met : Kept) : Type 0 where
-  pub plays : PlaysOn s old s' (stems_of s'.run pending)
-  pub off : GoOff s.program (length s.machines) s'.run pending
-  pub remembers : Remembers s s' (stems_of s'.run pending) before met
-  pub enough : KeepsEnough s old s' (stems_of s'.run pending)
+pub record HasCome (mode : SendMode) (s : SimValue) (old : List Stem) (s' : SimValue) (pending : List Branch) (before met : Kept) : Type 0 where
+  pub plays : PlaysOn mode s old s' (stems_of s'.run pending)
+  pub off : GoOff mode s.program (length s.machines) s'.run pending
+  pub remembers : Remembers mode s s' (stems_of s'.run pending) before met
+  pub enough : KeepsEnough mode s old s' (stems_of s'.run pending)
 
 -- before the first step
-pub comes_nowhere : (s : SimValue) (pending : List Branch) (met : Kept) → GoOff s.program (length s.machines) s.run pending
-    → HasCome s (stems_of s.run pending) s pending met met
-comes_nowhere s pending met off =
+pub comes_nowhere : (mode : SendMode) → (s : SimValue) (pending : List Branch) (met : Kept) → GoOff mode s.program (length s.machines) s.run pending
+    → HasCome mode s (stems_of s.run pending) s pending met met
+comes_nowhere mode s pending met off =
     record {
-      plays = plays_nothing s (stems_of s.run pending);
+      plays = plays_nothing mode s (stems_of s.run pending);
       off = off;
       remembers = record { keeps = keeps_same met; each = λ m a. inl a };
-      enough = keeps_nothing s (stems_of s.run pending);
+      enough = keeps_nothing mode s (stems_of s.run pending);
     }
 
 -- by acts that are fixed
-pub comes_along : (s : SimValue) (old : List Stem) (mid s' : SimValue) (pending : List Branch) (before met : Kept) → HasCome s old mid pending before met
-    → LeadsTo mid s' → HasCome s old s' pending before met
-comes_along s old mid s' pending before met come leads =
+pub comes_along : (mode : SendMode) → (s : SimValue) (old : List Stem) (mid s' : SimValue) (pending : List Branch) (before met : Kept) → HasCome mode s old mid pending before met
+    → LeadsTo mode mid s' → HasCome mode s old s' pending before met
+comes_along mode s old mid s' pending before met come leads =
     record {
-      plays = subst (λ (z : List Stem). PlaysOn s old s' z) (sym same) (plays_along s old mid s' (stems_of mid.run pending) come.plays leads);
-      off = off_behind s.program (length s.machines) mid.run s'.run pending leads.behind come.off;
+      plays = subst (λ (z : List Stem). PlaysOn mode s old s' z) (sym same) (plays_along mode s old mid s' (stems_of mid.run pending) come.plays leads);
+      off = off_behind mode s.program (length s.machines) mid.run s'.run pending leads.behind come.off;
       remembers =
-          subst (λ (z : List Stem). Remembers s s' z before met) (sym same)
-          (remembers_along s mid s' (stems_of mid.run pending) before met come.plays.alike come.remembers leads);
+          subst (λ (z : List Stem). Remembers mode s s' z before met) (sym same)
+          (remembers_along mode s mid s' (stems_of mid.run pending) before met come.plays.alike come.remembers leads);
       enough =
-          subst (λ (z : List Stem). KeepsEnough s old s' z) (sym same)
-          (along_enough s old mid s' (stems_of mid.run pending) come.plays.alike leads come.enough);
+          subst (λ (z : List Stem). KeepsEnough mode s old s' z) (sym same)
+          (along_enough mode s old mid s' (stems_of mid.run pending) come.plays.alike leads come.enough);
     }
   where
     same : stems_of s'.run pending ≡ stems_of mid.run pending
-    same = stems_behind s.program (length s.machines) mid.run s'.run pending come.off leads.behind
+    same = stems_behind mode s.program (length s.machines) mid.run s'.run pending come.off leads.behind
 
 -- by a move, with a branch left for each other
-pub comes_moved : (s : SimValue) (old : List Stem) (mid s' : SimValue) (pending new : List Branch) (moves : List Move) (first : Move)
-    (before met met' : Kept) → HasCome s old mid pending before met
-    → Moves s mid s' (stems_of mid.run pending) (stems_of mid.run new) moves first → GoOff mid.program (length mid.machines) mid.run new
-    → AddsAtMost met mid met' → AreDistinct moves → ((r : ℕ) → NoneIsFixed mid r) → HasCome s old s' new before met'
-comes_moved s old mid s' pending new moves first before met met' come made off adds once none =
+pub comes_moved : (mode : SendMode) → (s : SimValue) (old : List Stem) (mid s' : SimValue) (pending new : List Branch) (moves : List Move) (first : Move)
+    (before met met' : Kept) → HasCome mode s old mid pending before met
+    → Moves mode s mid s' (stems_of mid.run pending) (stems_of mid.run new) moves first → GoOff mode mid.program (length mid.machines) mid.run new
+    → AddsAtMost met mid met' → AreDistinct moves → ((r : ℕ) → NoneIsFixed mode mid r) → HasCome mode s old s' new before met'
+comes_moved mode s old mid s' pending new moves first before met met' come made off adds once none =
     record {
       plays =
-          subst (λ (z : List Stem). PlaysOn s old s' z) (sym same)
-          (plays_moves s mid s' (stems_of mid.run pending) (stems_of mid.run new) moves first made old come.plays);
-      off = off_behind s.program (length s.machines) mid.run s'.run new behind off_it;
+          subst (λ (z : List Stem). PlaysOn mode s old s' z) (sym same)
+          (plays_moves mode s mid s' (stems_of mid.run pending) (stems_of mid.run new) moves first made old come.plays);
+      off = off_behind mode s.program (length s.machines) mid.run s'.run new behind off_it;
       remembers =
-          subst (λ (z : List Stem). Remembers s s' z before met') (sym same)
-          (remembers_moves s mid s' (stems_of mid.run pending) (stems_of mid.run new) moves first made before met met' come.remembers adds);
+          subst (λ (z : List Stem). Remembers mode s s' z before met') (sym same)
+          (remembers_moves mode s mid s' (stems_of mid.run pending) (stems_of mid.run new) moves first made before met met' come.remembers adds);
       enough =
-          subst (λ (z : List Stem). KeepsEnough s old s' z) (sym same)
-          (moves_enough s mid s' (stems_of mid.run pending) (stems_of mid.run new) moves first made once none old come.enough);
+          subst (λ (z : List Stem). KeepsEnough mode s old s' z) (sym same)
+          (moves_enough mode s mid s' (stems_of mid.run pending) (stems_of mid.run new) moves first made once none old come.enough);
     }
   where
     step : IsStep mid first.rank s'
@@ -91,8 +92,8 @@ comes_moved s old mid s' pending new moves first before met met' come made off a
     behind : GoesBehind mid.run s'.run
     behind = (record { rank = first.rank; act = step.act } ∷ [], step.run)
 
-    off_it : GoOff s.program (length s.machines) mid.run new
-    off_it = off_by s mid mid.run new made.alike off
+    off_it : GoOff mode s.program (length s.machines) mid.run new
+    off_it = off_by mode s mid mid.run new made.alike off
 
     same : stems_of s'.run new ≡ stems_of mid.run new
-    same = stems_behind s.program (length s.machines) mid.run s'.run new off_it behind
+    same = stems_behind mode s.program (length s.machines) mid.run s'.run new off_it behind

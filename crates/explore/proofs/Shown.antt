@@ -19,7 +19,7 @@ use Rattle.crash_free.specs.Inside.{GoesInside}
 use Rattle.crash_free.specs.Sim.{SimValue, Simulates, Allows, choice_of, inbound_of, start_of}
 use Rattle.crash_free.specs.Wanted.{Wants, WantsAt, StandsAtAct}
 use Rattle.crash_free.proofs.Lists.{push_cases, run_begins}
-use Rattle.audit.specs.FinalRuns.Maximal.{IsOutcomeOf, MayFollow, RankOutcome}
+use Rattle.audit.specs.FinalRuns.Maximal.{MayFollow, RankOutcome}
 use Rattle.explore.specs.declared.moves.Noted.{Noted}
 use Rattle.explore.specs.Chosen.{MakesChoices}
 use Rattle.explore.specs.Explored.{FoundOutcomeValue, noted_choices, rank_outcomes}
@@ -31,6 +31,9 @@ use Rattle.explore.proofs.Choosing.{goes_there, goes_by}
 use Rattle.explore.proofs.SeenOf.{choices_at, seen_at}
 use Rattle.audit.proofs.FinalRunsLaws.Simulating.{sender_there, stands_there, wanted}
 use Rattle.audit.proofs.Reaching.{some_there}
+use Rattle.explore.specs.Sending.{IsOutcomeUnder}
+use Rattle.explore.specs.declared.send_mode.SendMode.{SendMode}
+use Rattle.explore.proofs.Sending.{plain_run}
 
 -- the act behind a part of a run may follow it
 pub may_next : (start : ℕ → State) (n : ℕ) (late : List Passed) (p : Passed) (early : List Passed) → IsRun start n (late ++ p ∷ early)
@@ -219,15 +222,15 @@ misses_none start run p before here (inl x) = here x.0 x.1
 misses_none start run p before here (inr x) = before x
 
 -- one mark more
-pub marked_more : (program : ProgramValue) (n : ℕ) (outcomes : List FoundOutcomeValue) (marks : List (Option Bool)) (at : ℕ) (x : FoundOutcomeValue)
-    (mark : Option Bool) → length marks ≡ at → slice_get outcomes at ≡ Some x → IfSome mark (IsMark program n x.ranks x.choices)
+pub marked_more : (mode : SendMode) → (program : ProgramValue) (n : ℕ) (outcomes : List FoundOutcomeValue) (marks : List (Option Bool)) (at : ℕ) (x : FoundOutcomeValue)
+    (mark : Option Bool) → length marks ≡ at → slice_get outcomes at ≡ Some x → IfSome mark (IsMark mode program n x.ranks x.choices)
     → ((i : ℕ) (o : List RankOutcome) (cs : List Noted) (m : Option Bool) → slice_get (rank_outcomes outcomes) i ≡ Some o
-    → slice_get (noted_choices outcomes) i ≡ Some cs → slice_get marks i ≡ Some m → IfSome m (IsMark program n o cs))
+    → slice_get (noted_choices outcomes) i ≡ Some cs → slice_get marks i ≡ Some m → IfSome m (IsMark mode program n o cs))
     → (i : ℕ) (o : List RankOutcome) (cs : List Noted) (m : Option Bool) → slice_get (rank_outcomes outcomes) i ≡ Some o
-    → slice_get (noted_choices outcomes) i ≡ Some cs → slice_get (marks ++ mark ∷ []) i ≡ Some m → IfSome m (IsMark program n o cs)
-marked_more program n outcomes marks at x mark size there is before i o cs m seen noted f = go (push_cases marks mark i m f)
+    → slice_get (noted_choices outcomes) i ≡ Some cs → slice_get (marks ++ mark ∷ []) i ≡ Some m → IfSome m (IsMark mode program n o cs)
+marked_more mode program n outcomes marks at x mark size there is before i o cs m seen noted f = go (push_cases marks mark i m f)
   where
-    go : (slice_get marks i ≡ Some m) ⊎ ((i ≡ length marks) × (m ≡ mark)) → IfSome m (IsMark program n o cs)
+    go : (slice_get marks i ≡ Some m) ⊎ ((i ≡ length marks) × (m ≡ mark)) → IfSome m (IsMark mode program n o cs)
     go (inl old) = before i o cs m seen noted old
     go (inr new) =
         let here : slice_get outcomes i ≡ Some x = subst (λ k. slice_get outcomes k ≡ Some x) (sym (new.0 ∙ size)) there in
@@ -235,22 +238,23 @@ marked_more program n outcomes marks at x mark size there is before i o cs m see
         let two : Some x.choices ≡ Some cs = sym (choices_at outcomes i x here) ∙ noted in
         let same_ranks : x.ranks ≡ o = cc in
         let same_choices : x.choices ≡ cs = cc in
-        subst (λ y. IfSome m (IsMark program n y cs)) same_ranks
-        (subst (λ y. IfSome m (IsMark program n x.ranks y)) same_choices
-        (subst (λ y. IfSome y (IsMark program n x.ranks x.choices)) (sym new.1) is))
+        subst (λ y. IfSome m (IsMark mode program n y cs)) same_ranks
+        (subst (λ y. IfSome m (IsMark mode program n x.ranks y)) same_choices
+        (subst (λ y. IfSome y (IsMark mode program n x.ranks x.choices)) (sym new.1) is))
 
 -- the acts of a run in their order, turned around, are the run
-pub run_back : (start : ℕ → State) (n : ℕ) (run acts : List Passed) (o : List RankOutcome) → IsOutcomeOf start n run o → acts ≡ reverse run
+pub run_back : (mode : SendMode) → (start : ℕ → State) (n : ℕ) (run acts : List Passed) (o : List RankOutcome) → IsOutcomeUnder mode start n run o → acts ≡ reverse run
     → IsRun start n (reverse acts)
-run_back start n run acts o is same = subst (λ C. IsRun start n C) (sym (ap reverse same ∙ reverse-reverse run)) is.is_run
+run_back mode start n run acts o is same = subst (λ C. IsRun start n C) (sym (ap reverse same ∙ reverse-reverse run))
+    (plain_run mode start n run is.is_run)
 
 -- the mark of the run that was made again is one of the outcome
-pub mark_there : {E : Type 0} (program : ProgramValue) (n : ℕ) (o : List RankOutcome) (choices : List Noted) (run acts : List Passed)
-    (r : Result (Option Bool) E) → IsOutcomeOf (start_of program n) n run o → MakesChoices program n run choices → acts ≡ reverse run → (r ≡ Ok (Some true) → MissesShown (start_of program n) (reverse acts))
-    → (r ≡ Ok (Some false) → MissesShown (start_of program n) (reverse acts) → ⊥) → IfOk r (λ mark. IfSome mark (IsMark program n o choices))
-mark_there program n o choices run acts (Err x) is chosen same past none = tt
-mark_there program n o choices run acts (Ok None) is chosen same past none = tt
-mark_there program n o choices run acts (Ok (Some mark)) is chosen same past none =
+pub mark_there : (mode : SendMode) → {E : Type 0} (program : ProgramValue) (n : ℕ) (o : List RankOutcome) (choices : List Noted) (run acts : List Passed)
+    (r : Result (Option Bool) E) → IsOutcomeUnder mode (start_of program n) n run o → MakesChoices mode program n run choices → acts ≡ reverse run → (r ≡ Ok (Some true) → MissesShown (start_of program n) (reverse acts))
+    → (r ≡ Ok (Some false) → MissesShown (start_of program n) (reverse acts) → ⊥) → IfOk r (λ mark. IfSome mark (IsMark mode program n o choices))
+mark_there mode program n o choices run acts (Err x) is chosen same past none = tt
+mark_there mode program n o choices run acts (Ok None) is chosen same past none = tt
+mark_there mode program n o choices run acts (Ok (Some mark)) is chosen same past none =
     record {
       run = run;
       outcome = is;

@@ -12,7 +12,7 @@ use Rattle.crash_free.specs.Sim.{SimValue, choice_of, start_of}
 use Rattle.crash_free.specs.Parts.{IsPartOf}
 use Rattle.crash_free.proofs.Lists.{history-other}
 use Rattle.crash_free.proofs.Reorder.{history_grows}
-use Rattle.audit.specs.FinalRuns.Maximal.{MayFollow}
+use Rattle.explore.specs.Sending.{MayFollowUnder}
 use Rattle.explore.specs.Exploring.{and_then, IsFixed}
 use Rattle.explore.specs.Moves.{move_of}
 use Rattle.explore.specs.Outcomes.{IsAmong, AreDistinct}
@@ -23,6 +23,7 @@ use Rattle.explore.proofs.Among.{among_none}
 use Rattle.explore.proofs.Fixed.{same_act}
 use Rattle.explore.proofs.Exploring.{both_ways, follows_both, part_of_same}
 use Rattle.explore.proofs.Ending.{fixed_still, swapped}
+use Rattle.explore.specs.declared.send_mode.SendMode.{SendMode}
 
 -- Sums
 
@@ -79,102 +80,102 @@ one_of f xs x a =
 -- Runs that are enough
 
 -- there is one at least
-pub one_enough : (start : ℕ → State) (n k : ℕ) (P : List Passed) → AreEnough start n k P → 0 < k
-one_enough start n k P (at_once r act fix rest) = one_enough start n k (and_then P r act) rest
-one_enough start n k P (tree moves needs among each few some) = some
+pub one_enough : (mode : SendMode) → (start : ℕ → State) (n k : ℕ) (P : List Passed) → AreEnough mode start n k P → 0 < k
+one_enough mode start n k P (at_once r act fix rest) = one_enough mode start n k (and_then P r act) rest
+one_enough mode start n k P (tree moves needs among each few some) = some
 
 -- more are enough too
-more_enough : (start : ℕ → State) (n k l : ℕ) (P : List Passed) → k ≤ l → AreEnough start n k P → AreEnough start n l P
-more_enough start n k l P low (at_once r act fix rest) = at_once r act fix (more_enough start n k l (and_then P r act) low rest)
-more_enough start n k l P low (tree moves needs among each few some) = tree moves needs among each (omega (arith, low, few)) (omega (arith, low, some))
+more_enough : (mode : SendMode) → (start : ℕ → State) (n k l : ℕ) (P : List Passed) → k ≤ l → AreEnough mode start n k P → AreEnough mode start n l P
+more_enough mode start n k l P low (at_once r act fix rest) = at_once r act fix (more_enough mode start n k l (and_then P r act) low rest)
+more_enough mode start n k l P low (tree moves needs among each few some) = tree moves needs among each (omega (arith, low, few)) (omega (arith, low, some))
 
 -- runs with the same histories need the same
-same_enough : (start : ℕ → State) (n k : ℕ) (D C : List Passed) → AreEnough start n k D → IsPartOf C D → IsPartOf D C → AreEnough start n k C
-same_enough start n k D C (at_once r act fix rest) part back =
+same_enough : (mode : SendMode) → (start : ℕ → State) (n k : ℕ) (D C : List Passed) → AreEnough mode start n k D → IsPartOf C D → IsPartOf D C → AreEnough mode start n k C
+same_enough mode start n k D C (at_once r act fix rest) part back =
     let same : history C r ≡ history D r = both_ways (history C r) (history D r) (part r) (back r) in
-    let here = follows_both start n D C r act back same (fix.low, fix.may) in
-    let there = follows_both start n C D r act part (sym same) here.0 in
-    at_once r act (fixed_still start n D C r act back same fix) (same_enough start n k (and_then D r act) (and_then C r act) rest there.1 here.1)
-same_enough start n k D C (tree moves needs among each few some) part back =
-    tree moves needs (λ r act may. among r act (follows_both start n C D r act part (same r) may).0)
+    let here = follows_both mode start n D C r act back same (fix.low, fix.may, fix.released) in
+    let there = follows_both mode start n C D r act part (sym same) here.0 in
+    at_once r act (fixed_still mode start n D C r act back same fix) (same_enough mode start n k (and_then D r act) (and_then C r act) rest there.1 here.1)
+same_enough mode start n k D C (tree moves needs among each few some) part back =
+    tree moves needs (λ r act may. among r act (follows_both mode start n C D r act part (same r) may).0)
     (λ r act may.
-    (let there = follows_both start n C D r act part (same r) may in
-    let here = follows_both start n D C r act back (sym (same r)) there.0 in
-    same_enough start n (needs (move_of r (choice_of act))) (and_then D r act) (and_then C r act) (each r act there.0) there.1 here.1))
+    (let there = follows_both mode start n C D r act part (same r) may in
+    let here = follows_both mode start n D C r act back (sym (same r)) there.0 in
+    same_enough mode start n (needs (move_of r (choice_of act))) (and_then D r act) (and_then C r act) (each r act there.0) there.1 here.1))
     few some
   where
     same : (r : ℕ) → history D r ≡ history C r
     same r = both_ways (history D r) (history C r) (back r) (part r)
 
 -- as many are once a fixed act was made, whichever act the search makes first
-pub fixed_enough : (start : ℕ → State) (n k : ℕ) (C : List Passed) (r : ℕ) (act : Act) → IsFixed start n C r act → AreEnough start n k C
-    → AreEnough start n k (and_then C r act)
-fixed_enough start n k C r act fix (tree moves needs among each few some) =
-    let may : MayFollow start n C r act = (fix.low, fix.may) in
+pub fixed_enough : (mode : SendMode) → (start : ℕ → State) (n k : ℕ) (C : List Passed) (r : ℕ) (act : Act) → IsFixed mode start n C r act → AreEnough mode start n k C
+    → AreEnough mode start n k (and_then C r act)
+fixed_enough mode start n k C r act fix (tree moves needs among each few some) =
+    let may : MayFollowUnder mode start n C r act = (fix.low, fix.may, fix.released) in
     let here = one_of needs moves (move_of r (choice_of act)) (among r act may) in
-    more_enough start n (needs (move_of r (choice_of act))) k (and_then C r act) (omega (arith, here, few)) (each r act may)
-fixed_enough start n k C r act fix (at_once q b fix' rest) =
-    go (λ fix''. fixed_enough start n k (and_then C q b) r act fix'' rest) (cases_eq r q)
+    more_enough mode start n (needs (move_of r (choice_of act))) k (and_then C r act) (omega (arith, here, few)) (each r act may)
+fixed_enough mode start n k C r act fix (at_once q b fix' rest) =
+    go (λ fix''. fixed_enough mode start n k (and_then C q b) r act fix'' rest) (cases_eq r q)
   where
-    go : (IsFixed start n (and_then C q b) r act → AreEnough start n k (and_then (and_then C q b) r act)) → (r ≡ q) ⊎ (r ≡ q → ⊥)
-        → AreEnough start n k (and_then C r act)
+    go : (IsFixed mode start n (and_then C q b) r act → AreEnough mode start n k (and_then (and_then C q b) r act)) → (r ≡ q) ⊎ (r ≡ q → ⊥)
+        → AreEnough mode start n k (and_then C r act)
     go more (inl e) =
         let own : MayMake (start r) (λ s. sent C s r) (history C r) b = subst (λ z. MayMake (start z) (λ s. sent C s z) (history C z) b) (sym e) fix'.may in
         let same : act ≡ b = same_act (start r) (λ s. sent C s r) (history C r) act b fix.may own fix.one in
         let run : and_then C r act ≡ and_then C q b = rw (same, e) refl in
-        subst (λ B. AreEnough start n k B) (sym run) rest
+        subst (λ B. AreEnough mode start n k B) (sym run) rest
     go more (inr ne) =
         let own : history (and_then C q b) r ≡ history C r = history-other C (record { rank = q; act = b }) r (λ d. ne (sym d)) in
         let other : history (and_then C r act) q ≡ history C q = history-other C (record { rank = r; act = act }) q ne in
-        let here = more (fixed_still start n C (and_then C q b) r act (λ z. history_grows C (record { rank = q; act = b }) z) own fix) in
-        let swap = swapped start n C r q act b ne (fix.low, fix.may) (fix'.low, fix'.may) in
-        at_once q b (fixed_still start n C (and_then C r act) q b (λ z. history_grows C (record { rank = r; act = act }) z) other fix')
-        (same_enough start n k (and_then (and_then C q b) r act) (and_then (and_then C r act) q b) here
+        let here = more (fixed_still mode start n C (and_then C q b) r act (λ z. history_grows C (record { rank = q; act = b }) z) own fix) in
+        let swap = swapped mode start n C r q act b ne (fix.low, fix.may, fix.released) (fix'.low, fix'.may, fix'.released) in
+        at_once q b (fixed_still mode start n C (and_then C r act) q b (λ z. history_grows C (record { rank = r; act = act }) z) other fix')
+        (same_enough mode start n k (and_then (and_then C q b) r act) (and_then (and_then C r act) q b) here
         (part_of_same (and_then (and_then C r act) q b) (and_then (and_then C q b) r act) (λ z. sym (swap z)))
         (part_of_same (and_then (and_then C q b) r act) (and_then (and_then C r act) q b) swap))
 
 -- what is enough for the ranks of one simulation is for those of another of the same program
-pub enough_by : (s s' : SimValue) (k : ℕ) (P : List Passed) → IsAlike s s' → EnoughFor s' k P → EnoughFor s k P
-enough_by s s' k P alike x =
-    subst (λ n. AreEnough (start_of s.program n) n k P) alike.ranks
-    (subst (λ p. AreEnough (start_of p (length s'.machines)) (length s'.machines) k P) alike.program x)
+pub enough_by : (mode : SendMode) → (s s' : SimValue) (k : ℕ) (P : List Passed) → IsAlike s s' → EnoughFor mode s' k P → EnoughFor mode s k P
+enough_by mode s s' k P alike x =
+    subst (λ n. AreEnough mode (start_of s.program n) n k P) alike.ranks
+    (subst (λ p. AreEnough mode (start_of p (length s'.machines)) (length s'.machines) k P) alike.program x)
 
 -- and for all stems
-pub all_by : (s s' : SimValue) (k : ℕ) (xs : List Stem) → IsAlike s s' → EnoughForAll s'.program (length s'.machines) k xs
-    → EnoughForAll s.program (length s.machines) k xs
-all_by s s' k xs alike x =
-    subst (λ n. EnoughForAll s.program n k xs) alike.ranks (subst (λ p. EnoughForAll p (length s'.machines) k xs) alike.program x)
+pub all_by : (mode : SendMode) → (s s' : SimValue) (k : ℕ) (xs : List Stem) → IsAlike s s' → EnoughForAll mode s'.program (length s'.machines) k xs
+    → EnoughForAll mode s.program (length s.machines) k xs
+all_by mode s s' k xs alike x =
+    subst (λ n. EnoughForAll mode s.program n k xs) alike.ranks (subst (λ p. EnoughForAll mode p (length s'.machines) k xs) alike.program x)
 
 -- What is left
 
 -- more are enough for all too
-pub all_more : (program : ProgramValue) (n j k : ℕ) (xs : List Stem) → j ≤ k → EnoughForAll program n j xs → EnoughForAll program n k xs
-all_more program n j k [] low e = tt
-all_more program n j k (x ∷ xs) low e = (e.0, e.1, e.2, e.3, e.4, (let few = e.5 in omega (arith, low, few)))
+pub all_more : (mode : SendMode) → (program : ProgramValue) (n j k : ℕ) (xs : List Stem) → j ≤ k → EnoughForAll mode program n j xs → EnoughForAll mode program n k xs
+all_more mode program n j k [] low e = tt
+all_more mode program n j k (x ∷ xs) low e = (e.0, e.1, e.2, e.3, e.4, (let few = e.5 in omega (arith, low, few)))
 
 -- with one more stem
-pub all_push : (program : ProgramValue) (n j k : ℕ) (xs : List Stem) (y : Stem) → EnoughForAll program n j xs → 0 < k
-    → ((P : List Passed) → IsRunOf program n y P → AreEnough (start_of program n) n k P) → EnoughForAll program n (j + k) (xs ++ y ∷ [])
-all_push program n j k [] y e some one = (k, zero, some, one, tt, omega arith)
-all_push program n j k (x ∷ xs) y e some one =
-    (e.0, e.1 + k, e.2, e.3, all_push program n e.1 k xs y e.4 some one, (let few = e.5 in omega (arith, few)))
+pub all_push : (mode : SendMode) → (program : ProgramValue) (n j k : ℕ) (xs : List Stem) (y : Stem) → EnoughForAll mode program n j xs → 0 < k
+    → ((P : List Passed) → IsRunOf mode program n y P → AreEnough mode (start_of program n) n k P) → EnoughForAll mode program n (j + k) (xs ++ y ∷ [])
+all_push mode program n j k [] y e some one = (k, zero, some, one, tt, omega arith)
+all_push mode program n j k (x ∷ xs) y e some one =
+    (e.0, e.1 + k, e.2, e.3, all_push mode program n e.1 k xs y e.4 some one, (let few = e.5 in omega (arith, few)))
 
 -- and without the last one
-pub all_pop : (program : ProgramValue) (n k : ℕ) (xs : List Stem) (y : Stem) → EnoughForAll program n k (xs ++ y ∷ [])
-    → (i : ℕ) × (l : ℕ) × EnoughForAll program n i xs × (0 < l) × ((P : List Passed) → IsRunOf program n y P → AreEnough (start_of program n) n l P)
+pub all_pop : (mode : SendMode) → (program : ProgramValue) (n k : ℕ) (xs : List Stem) (y : Stem) → EnoughForAll mode program n k (xs ++ y ∷ [])
+    → (i : ℕ) × (l : ℕ) × EnoughForAll mode program n i xs × (0 < l) × ((P : List Passed) → IsRunOf mode program n y P → AreEnough mode (start_of program n) n l P)
     × (i + l ≤ k)
-all_pop program n k [] y e = (zero, e.0, tt, e.2, e.3, (let few = e.5 in omega (arith, few)))
-all_pop program n k (x ∷ xs) y e =
-    let rest = all_pop program n e.1 xs y e.4 in
+all_pop mode program n k [] y e = (zero, e.0, tt, e.2, e.3, (let few = e.5 in omega (arith, few)))
+all_pop mode program n k (x ∷ xs) y e =
+    let rest = all_pop mode program n e.1 xs y e.4 in
     let few = e.5 in
     let less = rest.5 in
     (e.0 + rest.0, rest.1, (e.0, rest.0, e.2, e.3, rest.2, omega arith), rest.3, rest.4, omega (arith, few, less))
 
 -- no run is enough for nothing alone
-pub all_none : (program : ProgramValue) (n : ℕ) (xs : List Stem) → EnoughForAll program n 0 xs → xs ≡ []
-all_none program n [] e = refl
-all_none program n (x ∷ xs) e = absurd (let some = e.2 in let few = e.5 in omega (arith, some, few))
+pub all_none : (mode : SendMode) → (program : ProgramValue) (n : ℕ) (xs : List Stem) → EnoughForAll mode program n 0 xs → xs ≡ []
+all_none mode program n [] e = refl
+all_none mode program n (x ∷ xs) e = absurd (let some = e.2 in let few = e.5 in omega (arith, some, few))
 
 -- before the first step
-pub keeps_nothing : (s : SimValue) (pending : List Stem) → KeepsEnough s pending s pending
-keeps_nothing s pending j k before here = (j, k, before, here, omega arith)
+pub keeps_nothing : (mode : SendMode) → (s : SimValue) (pending : List Stem) → KeepsEnough mode s pending s pending
+keeps_nothing mode s pending j k before here = (j, k, before, here, omega arith)

@@ -12,6 +12,7 @@ use Rattle.rank_machine.proofs.CollectiveParts.{longer_at}
 -- Beginnings of a run
 
 pub use Rattle.crash_free.proofs.Points.{behind_further, behind_longer, first_all, first_before, first_behind, first_long, first_of_first, first_taken}
+use Rattle.explore.specs.declared.send_mode.SendMode.{SendMode}
 
 -- Stems
 
@@ -28,9 +29,9 @@ stems_same C C' (b ∷ bs) each =
     stem_with z x = record { before = z; chosen = x.chosen }
 
 -- so it is where the run goes on
-pub stems_behind : (program : ProgramValue) (n : ℕ) (C C' : List Passed) (pending : List Branch) → GoOff program n C pending → GoesBehind C C'
+pub stems_behind : (mode : SendMode) → (program : ProgramValue) (n : ℕ) (C C' : List Passed) (pending : List Branch) → GoOff mode program n C pending → GoesBehind C C'
     → stems_of C' pending ≡ stems_of C pending
-stems_behind program n C C' pending off behind = stems_same C C' pending (λ b a. first_behind b.shared C C' behind (off.within b a))
+stems_behind mode program n C C' pending off behind = stems_same C C' pending (λ b a. first_behind b.shared C C' behind (off.within b a))
 
 -- one stem more
 pub stems_push : (C : List Passed) (pending : List Branch) (b : Branch) → stems_of C (pending ++ b ∷ []) ≡ stems_of C pending ++ stem_of C b ∷ []
@@ -50,42 +51,42 @@ stem_here C b all = ap (λ (z : List Passed). stem_with z) (ap (λ k. first_acts
     stem_with z = record { before = z; chosen = b.chosen }
 
 -- a stem left to some is left to more
-pub left_more : (program : ProgramValue) (n : ℕ) (old new : List Stem) → ((x : Stem) → IsAmong old x → IsAmong new x) → (P : List Passed)
-    → IsLeftTo program n old P → IsLeftTo program n new P
-left_more program n old new kept P l = (l.0, kept l.0 l.1, l.2)
+pub left_more : (mode : SendMode) → (program : ProgramValue) (n : ℕ) (old new : List Stem) → ((x : Stem) → IsAmong old x → IsAmong new x) → (P : List Passed)
+    → IsLeftTo mode program n old P → IsLeftTo mode program n new P
+left_more mode program n old new kept P l = (l.0, kept l.0 l.1, l.2)
 
 -- what is left to some and one more is left to them, or to that one
-pub left_push : (program : ProgramValue) (n : ℕ) (pending : List Stem) (x : Stem) (P : List Passed) → IsLeftTo program n (pending ++ x ∷ []) P
-    → IsLeftTo program n pending P ⊎ IsRunOf program n x P
-left_push program n pending x P l = go (among_push pending x l.0 l.1)
+pub left_push : (mode : SendMode) → (program : ProgramValue) (n : ℕ) (pending : List Stem) (x : Stem) (P : List Passed) → IsLeftTo mode program n (pending ++ x ∷ []) P
+    → IsLeftTo mode program n pending P ⊎ IsRunOf mode program n x P
+left_push mode program n pending x P l = go (among_push pending x l.0 l.1)
   where
-    go : IsAmong pending l.0 ⊎ (l.0 ≡ x) → IsLeftTo program n pending P ⊎ IsRunOf program n x P
+    go : IsAmong pending l.0 ⊎ (l.0 ≡ x) → IsLeftTo mode program n pending P ⊎ IsRunOf mode program n x P
     go (inl before) = inl (l.0, before, l.2)
-    go (inr e) = inr (subst (λ (y : Stem). IsRunOf program n y P) e l.2)
+    go (inr e) = inr (subst (λ (y : Stem). IsRunOf mode program n y P) e l.2)
 
 -- Branches
 
 -- branches of one run go off another that begins with what they share
-off_same : (program : ProgramValue) (n : ℕ) (C C' : List Passed) (pending : List Branch)
+off_same : (mode : SendMode) → (program : ProgramValue) (n : ℕ) (C C' : List Passed) (pending : List Branch)
     → ((b : Branch) → IsAmong pending b → first_acts b.shared C' ≡ first_acts b.shared C) → ((b : Branch) → IsAmong pending b → b.shared ≤ length C')
-    → GoOff program n C pending → GoOff program n C' pending
-off_same program n C C' pending each within off =
+    → GoOff mode program n C pending → GoOff mode program n C' pending
+off_same mode program n C C' pending each within off =
     record {
       within = within;
       rising = off.rising;
-      some_run = λ b a. subst (λ (z : List Passed). (P : List Passed) × IsAfter program n z b.chosen P) (sym (each b a)) (off.some_run b a);
+      some_run = λ b a. subst (λ (z : List Passed). (P : List Passed) × IsAfter mode program n z b.chosen P) (sym (each b a)) (off.some_run b a);
     }
 
 -- where the run goes on they still go off it
-pub off_behind : (program : ProgramValue) (n : ℕ) (C C' : List Passed) (pending : List Branch) → GoesBehind C C' → GoOff program n C pending
-    → GoOff program n C' pending
-off_behind program n C C' pending behind off =
-    off_same program n C C' pending (λ b a. first_behind b.shared C C' behind (off.within b a))
+pub off_behind : (mode : SendMode) → (program : ProgramValue) (n : ℕ) (C C' : List Passed) (pending : List Branch) → GoesBehind C C' → GoOff mode program n C pending
+    → GoOff mode program n C' pending
+off_behind mode program n C C' pending behind off =
+    off_same mode program n C C' pending (λ b a. first_behind b.shared C C' behind (off.within b a))
     (λ b a. (let long = behind_longer C C' behind in omega (arith, long, off.within b a))) off
 
 -- no branch goes off any run
-pub off_none : (program : ProgramValue) (n : ℕ) (C : List Passed) → GoOff program n C []
-off_none program n C =
+pub off_none : (mode : SendMode) → (program : ProgramValue) (n : ℕ) (C : List Passed) → GoOff mode program n C []
+off_none mode program n C =
     record {
       within = λ b a. absurd (let e = a.1 in cc);
       rising = λ i j b c low e f. absurd (cc);
@@ -93,9 +94,9 @@ off_none program n C =
     }
 
 -- one more, where the run ends now
-pub off_push : (program : ProgramValue) (n : ℕ) (C : List Passed) (pending : List Branch) (b : Branch) → b.shared ≡ length C
-    → (P : List Passed) × IsAfter program n C b.chosen P → GoOff program n C pending → GoOff program n C (pending ++ b ∷ [])
-off_push program n C pending b all run off =
+pub off_push : (mode : SendMode) → (program : ProgramValue) (n : ℕ) (C : List Passed) (pending : List Branch) (b : Branch) → b.shared ≡ length C
+    → (P : List Passed) × IsAfter mode program n C b.chosen P → GoOff mode program n C pending → GoOff mode program n C (pending ++ b ∷ [])
+off_push mode program n C pending b all run off =
     record {
       within = λ x a. within x (among_push pending b x a);
       rising = λ i j x y low e f. rising i j x y low (push_cases pending b i x e) (push_cases pending b j y f);
@@ -117,18 +118,18 @@ off_push program n C pending b all run off =
         let two : y.shared ≡ b.shared = ap (λ (z : Branch). z.shared) f.1 in
         omega (arith, one, two)
 
-    opens : (x : Branch) → IsAmong pending x ⊎ (x ≡ b) → (P : List Passed) × IsRunOf program n (stem_of C x) P
+    opens : (x : Branch) → IsAmong pending x ⊎ (x ≡ b) → (P : List Passed) × IsRunOf mode program n (stem_of C x) P
     opens x (inl before) = off.some_run x before
     opens x (inr e) =
-        subst (λ (y : Branch). (P : List Passed) × IsRunOf program n (stem_of C y) P) (sym e)
-        (subst (λ (z : Stem). (P : List Passed) × IsRunOf program n z P) (sym (stem_here C b all)) run)
+        subst (λ (y : Branch). (P : List Passed) × IsRunOf mode program n (stem_of C y) P) (sym e)
+        (subst (λ (z : Stem). (P : List Passed) × IsRunOf mode program n z P) (sym (stem_here C b all)) run)
 
 -- The last branch, and those before it, which share no more
-module _ (program : ProgramValue) (n : ℕ) (C : List Passed) (pending : List Branch) (b : Branch) (off : GoOff program n C (pending ++ b ∷ [])) where
+module _ (mode : SendMode) (program : ProgramValue) (n : ℕ) (C : List Passed) (pending : List Branch) (b : Branch) (off : GoOff mode program n C (pending ++ b ∷ [])) where
   pub last_within : b.shared ≤ length C
   last_within = off.within b (among_last pending b)
 
-  pub last_run : (P : List Passed) × IsRunOf program n (stem_of C b) P
+  pub last_run : (P : List Passed) × IsRunOf mode program n (stem_of C b) P
   last_run = off.some_run b (among_last pending b)
 
   share_less : (x : Branch) → IsAmong pending x → x.shared ≤ b.shared
@@ -141,7 +142,7 @@ module _ (program : ProgramValue) (n : ℕ) (C : List Passed) (pending : List Br
       at_end [] = refl
       at_end (y ∷ ys) = at_end ys
 
-  front : GoOff program n C pending
+  front : GoOff mode program n C pending
   front =
       record {
         within = λ x a. off.within x (among_first pending (b ∷ []) x a);
@@ -151,9 +152,9 @@ module _ (program : ProgramValue) (n : ℕ) (C : List Passed) (pending : List Br
 
   -- once the last one is taken up the others go off its run, with the stems that they had
   module _ (C' : List Passed) (shares : (k : ℕ) → k ≤ b.shared → first_acts k C' ≡ first_acts k C) (long : b.shared ≤ length C') where
-    pub off_taken : GoOff program n C' pending
+    pub off_taken : GoOff mode program n C' pending
     off_taken =
-        off_same program n C C' pending (λ x a. shares x.shared (share_less x a)) (λ x a. (let less = share_less x a in omega (arith, less, long))) front
+        off_same mode program n C C' pending (λ x a. shares x.shared (share_less x a)) (λ x a. (let less = share_less x a in omega (arith, less, long))) front
 
     pub stems_taken : stems_of C' pending ≡ stems_of C pending
     stems_taken = stems_same C C' pending (λ x a. shares x.shared (share_less x a))

@@ -18,6 +18,7 @@ use Rattle.explore.specs.Searching.{IsAlike}
 use Rattle.explore.specs.Stops.{AreSomeOf, AreStops, AreWithin, CanGoBack, IsClosest, IsOneOf, IsStop, KeepsStops}
 use Rattle.explore.proofs.Among.{among_push}
 use Rattle.explore.proofs.Choosing.{IsStep, goes_by}
+use Rattle.explore.specs.declared.send_mode.SendMode.{SendMode}
 
 -- The same acts
 
@@ -193,8 +194,8 @@ stops_chosen s s' m left left' stops now then at allows counts =
     (record { rank = m.rank; act = step.act } ∷ [], step.run) counts
 
 -- and behind acts that are fixed
-pub stops_led : (s s' : SimValue) (left left' : List ℕ) (stops : Stops) → LeadsTo s s' → KeepsCount s left s' left' → KeepsStops s left stops s' left' stops
-stops_led s s' left left' stops leads counts =
+pub stops_led : (mode : SendMode) → (s s' : SimValue) (left left' : List ℕ) (stops : Stops) → LeadsTo mode s s' → KeepsCount s left s' left' → KeepsStops s left stops s' left' stops
+stops_led mode s s' left left' stops leads counts =
     stops_on s s' left left' stops (record { program = leads.program; ranks = leads.ranks }) leads.behind counts
 
 -- The closest

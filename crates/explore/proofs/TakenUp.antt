@@ -3,13 +3,16 @@ use Rattle.std.proofs.Common.{◌≡◌, ℕ, ◌+◌, ◌≤◌, List, [], ◌�
 use Rattle.std.specs.Prelude.{Err, IfOk, Ok, OnOk, Result, drop, reverse, slice_index, take}
 use Rattle.std.proofs.lemmas.List.{append_assoc, length-append, length-reverse, length-take-le}
 use Rattle.rank_machine.specs.Acts.{Act}
-use Rattle.crash_free.specs.Runs.{Passed, IsRun}
+use Rattle.crash_free.specs.Runs.{Passed}
+use Rattle.crash_free.specs.Runs.{IsRun}
 use Rattle.crash_free.specs.Sim.{SimValue, Simulates, Allows, choice_of, start_of}
 use Rattle.crash_free.specs.Wanted.{StandsAtAct}
-use Rattle.crash_free.proofs.Points.{cut_parts, first_all}
+use Rattle.crash_free.proofs.Points.{cut_parts, first_all, first_before}
 use Rattle.explore.specs.declared.branch.Branch.{Branch}
 use Rattle.explore.specs.declared.moves.Move.{Move}
 use Rattle.audit.specs.FinalRuns.Maximal.{MayFollow}
+use Rattle.explore.specs.Sending.{HasRunUnder, IsReleasedAt, IsRunUnder, MayFollowUnder}
+use Rattle.explore.proofs.Sending.{released_by, run_before, run_by}
 use Rattle.explore.specs.Exploring.{and_then}
 use Rattle.explore.specs.Counting.{GoesBeyond}
 use Rattle.explore.specs.Counts.{Counts, KeepsCount, NeedsAtMost}
@@ -20,55 +23,56 @@ use Rattle.explore.proofs.Choosing.{IsChosen, act_of_choice, goes_by, goes_there
 use Rattle.explore.proofs.Shown.{goes_on, may_next, one_more}
 use Rattle.explore.proofs.Stems.{first_behind, first_long, first_of_first}
 use Rattle.explore.proofs.Within.{needs_before, needs_counted}
+use Rattle.explore.specs.declared.send_mode.SendMode.{SendMode}
 
 -- The same ranks and the same run
 
 -- what may follow by the ranks of one simulation may by those of another, after the same run
-may_there : (s t : SimValue) (r : ℕ) (act : Act) → IsAlike s t → t.run ≡ s.run
-    → MayFollow (start_of s.program (length s.machines)) (length s.machines) s.run r act
-    → MayFollow (start_of t.program (length t.machines)) (length t.machines) t.run r act
-may_there s t r act alike same may =
-    subst (λ C. MayFollow (start_of t.program (length t.machines)) (length t.machines) C r act) (sym same)
-    (subst (λ n. MayFollow (start_of t.program n) n s.run r act) (sym alike.ranks)
-    (subst (λ p. MayFollow (start_of p (length s.machines)) (length s.machines) s.run r act) (sym alike.program) may))
+may_there : (mode : SendMode) → (s t : SimValue) (r : ℕ) (act : Act) → IsAlike s t → t.run ≡ s.run
+    → MayFollowUnder mode (start_of s.program (length s.machines)) (length s.machines) s.run r act
+    → MayFollowUnder mode (start_of t.program (length t.machines)) (length t.machines) t.run r act
+may_there mode s t r act alike same may =
+    subst (λ C. MayFollowUnder mode (start_of t.program (length t.machines)) (length t.machines) C r act) (sym same)
+    (subst (λ n. MayFollowUnder mode (start_of t.program n) n s.run r act) (sym alike.ranks)
+    (subst (λ p. MayFollowUnder mode (start_of p (length s.machines)) (length s.machines) s.run r act) (sym alike.program) may))
 
 -- and back
-may_back : (s t : SimValue) (r : ℕ) (act : Act) → IsAlike s t → t.run ≡ s.run
-    → MayFollow (start_of t.program (length t.machines)) (length t.machines) t.run r act
-    → MayFollow (start_of s.program (length s.machines)) (length s.machines) s.run r act
-may_back s t r act alike same may =
-    subst (λ p. MayFollow (start_of p (length s.machines)) (length s.machines) s.run r act) alike.program
-    (subst (λ n. MayFollow (start_of t.program n) n s.run r act) alike.ranks
-    (subst (λ C. MayFollow (start_of t.program (length t.machines)) (length t.machines) C r act) same may))
+may_back : (mode : SendMode) → (s t : SimValue) (r : ℕ) (act : Act) → IsAlike s t → t.run ≡ s.run
+    → MayFollowUnder mode (start_of t.program (length t.machines)) (length t.machines) t.run r act
+    → MayFollowUnder mode (start_of s.program (length s.machines)) (length s.machines) s.run r act
+may_back mode s t r act alike same may =
+    subst (λ p. MayFollowUnder mode (start_of p (length s.machines)) (length s.machines) s.run r act) alike.program
+    (subst (λ n. MayFollowUnder mode (start_of t.program n) n s.run r act) alike.ranks
+    (subst (λ C. MayFollowUnder mode (start_of t.program (length t.machines)) (length t.machines) C r act) same may))
 
 -- what is after a move by the ranks of one is by those of the other
-after_there : (s t : SimValue) (C : List Passed) (o : Option Move) (P : List Passed) → IsAlike s t → IsAfter s.program (length s.machines) C o P
-    → IsAfter t.program (length t.machines) C o P
-after_there s t C o P alike x =
-    subst (λ n. IsAfter t.program n C o P) (sym alike.ranks) (subst (λ p. IsAfter p (length s.machines) C o P) (sym alike.program) x)
+after_there : (mode : SendMode) → (s t : SimValue) (C : List Passed) (o : Option Move) (P : List Passed) → IsAlike s t → IsAfter mode s.program (length s.machines) C o P
+    → IsAfter mode t.program (length t.machines) C o P
+after_there mode s t C o P alike x =
+    subst (λ n. IsAfter mode t.program n C o P) (sym alike.ranks) (subst (λ p. IsAfter mode p (length s.machines) C o P) (sym alike.program) x)
 
 -- and the other way
-after_back : (s t : SimValue) (C : List Passed) (o : Option Move) (P : List Passed) → IsAlike s t → IsAfter t.program (length t.machines) C o P
-    → IsAfter s.program (length s.machines) C o P
-after_back s t C o P alike x =
-    subst (λ n. IsAfter s.program n C o P) alike.ranks (subst (λ p. IsAfter p (length t.machines) C o P) alike.program x)
+after_back : (mode : SendMode) → (s t : SimValue) (C : List Passed) (o : Option Move) (P : List Passed) → IsAlike s t → IsAfter mode t.program (length t.machines) C o P
+    → IsAfter mode s.program (length s.machines) C o P
+after_back mode s t C o P alike x =
+    subst (λ n. IsAfter mode s.program n C o P) alike.ranks (subst (λ p. IsAfter mode p (length t.machines) C o P) alike.program x)
 
 -- A rank that has no steps left for an act that may follow goes beyond.
-pub beyond_there : (s t : SimValue) (left left' : List ℕ) (r : ℕ) (act : Act) → IsAlike s t → t.run ≡ s.run → Simulates t
-    → MayFollow (start_of s.program (length s.machines)) (length s.machines) s.run r act → slice_index left' r ≡ 0 → KeepsCount s left t left'
-    → (steps : ℕ) → Counts steps s left → GoesBeyond s.program (length s.machines) steps
-beyond_there s t left left' r act alike same stands may none keeps steps counts =
-    beyond_alike s.program (length s.machines) t steps alike.program alike.ranks
-    (beyond_act t left' steps r act stands (may_there s t r act alike same may) none (keeps steps counts))
+pub beyond_there : (mode : SendMode) → (s t : SimValue) (left left' : List ℕ) (r : ℕ) (act : Act) → IsAlike s t → t.run ≡ s.run → HasRunUnder mode t
+    → MayFollowUnder mode (start_of s.program (length s.machines)) (length s.machines) s.run r act → slice_index left' r ≡ 0 → KeepsCount s left t left'
+    → (steps : ℕ) → Counts steps s left → GoesBeyond mode s.program (length s.machines) steps
+beyond_there mode s t left left' r act alike same run may none keeps steps counts =
+    beyond_alike mode s.program (length s.machines) t steps alike.program alike.ranks
+    (beyond_act mode t left' steps r act run (may_there mode s t r act alike same may) none (keeps steps counts))
 
 -- and where it does by the ranks of one simulation it does by those of the other
-pub beyond_back : (s t : SimValue) (steps : ℕ) → IsAlike s t → GoesBeyond t.program (length t.machines) steps
-    → GoesBeyond s.program (length s.machines) steps
-beyond_back s t steps alike beyond = beyond_alike s.program (length s.machines) t steps alike.program alike.ranks beyond
+pub beyond_back : (mode : SendMode) → (s t : SimValue) (steps : ℕ) → IsAlike s t → GoesBeyond mode t.program (length t.machines) steps
+    → GoesBeyond mode s.program (length s.machines) steps
+beyond_back mode s t steps alike beyond = beyond_alike mode s.program (length s.machines) t steps alike.program alike.ranks beyond
 
 -- A move, behind steps of its rank's own
-module _ (s t s' : SimValue) (m : Move) (alike : IsAlike s t) (same : t.run ≡ s.run) (now : Simulates t) (then : Simulates s')
-    (at : StandsAtAct t.machines m.rank) (allows : Allows t m.rank m.choice s') where
+module _ (mode : SendMode) (s t s' : SimValue) (m : Move) (alike : IsAlike s t) (same : t.run ≡ s.run) (now : Simulates t) (then : Simulates s')
+    (at : StandsAtAct t.machines m.rank) (free : IsReleasedAt mode s m.rank) (allows : Allows t m.rank m.choice s') where
   step : IsChosen t m.rank m.choice s'
   step = act_of_choice t s' m.rank m.choice now then at allows
 
@@ -80,19 +84,29 @@ module _ (s t s' : SimValue) (m : Move) (alike : IsAlike s t) (same : t.run ≡ 
   pub behind_moved : GoesBehind s.run s'.run
   behind_moved = (record { rank = m.rank; act = step.act } ∷ [], step.run ∙ ap (λ (C : List Passed). and_then C m.rank step.act) same)
 
-  pub after_moved : IsAfter s.program (length s.machines) s.run (Some m) s'.run
+  pub after_moved : IsAfter mode s.program (length s.machines) s.run (Some m) s'.run
   after_moved = (
     step.act,
-    (may_back s t m.rank step.act alike same step.may, step.same),
+    (
+      may_back mode s t m.rank step.act alike same (step.may.0, step.may.1, released_by mode s t m.rank alike.ranks same free),
+      step.same,
+    ),
     step.run ∙ ap (λ (C : List Passed). and_then C m.rank step.act) same,
   )
 
+  -- and it is a run by the mode
+  pub run_moved : HasRunUnder mode s → HasRunUnder mode s'
+  run_moved run =
+      let may = may_back mode s t m.rank step.act alike same (step.may.0, step.may.1, released_by mode s t m.rank alike.ranks same free) in
+      run_by mode s s' (and_then s.run m.rank step.act) alike_moved.program alike_moved.ranks
+      (step.run ∙ ap (λ (C : List Passed). and_then C m.rank step.act) same) (run, may.0, may.1, may.2)
+
   -- there is no other run after it
-  pub moved_once : (P : List Passed) → IsAfter s.program (length s.machines) s.run (Some m) P → P ≡ s'.run
+  pub moved_once : (P : List Passed) → IsAfter mode s.program (length s.machines) s.run (Some m) P → P ≡ s'.run
   moved_once P x =
-      let may = may_there s t m.rank x.0 alike same x.1.0 in
+      let may = may_there mode s t m.rank x.0 alike same x.1.0 in
       let allowed : Allows t m.rank (choice_of x.0) s' = subst (λ c. Allows t m.rank c s') (sym x.1.1) allows in
-      x.2 ∙ ap (λ (C : List Passed). and_then C m.rank x.0) (sym same) ∙ sym (goes_there t s' m.rank x.0 now at may allowed)
+      x.2 ∙ ap (λ (C : List Passed). and_then C m.rank x.0) (sym same) ∙ sym (goes_there t s' m.rank x.0 now at (may.0, may.1) allowed)
 
 -- what follows from what holds on a value holds on it
 pub if_value : {T E P Q : Type 0} (o : Result T E) → OnOk o P → (P → Q) → IfOk o (λ x. Q)
@@ -178,45 +192,53 @@ made_first C base acts count shared whole size few =
       sym whole ∙ ap (λ (X : List Passed). X ++ base) (sym (cut_parts count acts)) ∙ append_assoc (reverse (drop count acts)) (reverse (take count acts)) base,
     )
 
--- The first acts of a run that were made again, and then the move of a branch
-module _ (s t : SimValue) (b : Branch) (alike : IsAlike s t) (first : t.run ≡ first_acts b.shared s.run) (within : b.shared ≤ length s.run) where
-  -- a branch with no move is there
-  pub there_whole : b.chosen ≡ None → IsRunOf s.program (length s.machines) (stem_of s.run b) t.run
-  there_whole none =
-      subst (λ o. IsAfter s.program (length s.machines) (first_acts b.shared s.run) o t.run) (sym none) first
+-- a run by the mode that was cut to its first acts is one
+pub run_first : (mode : SendMode) → (s t : SimValue) (k : ℕ) → IsAlike s t → t.run ≡ first_acts k s.run → HasRunUnder mode s → HasRunUnder mode t
+run_first mode s t k alike first run =
+    let behind = first_before k s.run in
+    run_by mode s t (first_acts k s.run) alike.program alike.ranks first
+    (run_before mode (start_of s.program (length s.machines)) (length s.machines) behind.0 (first_acts k s.run)
+    (subst (λ C. IsRunUnder mode (start_of s.program (length s.machines)) (length s.machines) C) behind.1 run))
 
-  pub only_whole : b.chosen ≡ None → (P : List Passed) → IsRunOf s.program (length s.machines) (stem_of s.run b) P → P ≡ t.run
+-- The first acts of a run that were made again, and then the move of a branch
+module _ (mode : SendMode) (s t : SimValue) (b : Branch) (alike : IsAlike s t) (first : t.run ≡ first_acts b.shared s.run) (within : b.shared ≤ length s.run) where
+  -- a branch with no move is there
+  pub there_whole : b.chosen ≡ None → IsRunOf mode s.program (length s.machines) (stem_of s.run b) t.run
+  there_whole none =
+      subst (λ o. IsAfter mode s.program (length s.machines) (first_acts b.shared s.run) o t.run) (sym none) first
+
+  pub only_whole : b.chosen ≡ None → (P : List Passed) → IsRunOf mode s.program (length s.machines) (stem_of s.run b) P → P ≡ t.run
   only_whole none P x =
-      let e : P ≡ first_acts b.shared s.run = subst (λ o. IsAfter s.program (length s.machines) (first_acts b.shared s.run) o P) none x in
+      let e : P ≡ first_acts b.shared s.run = subst (λ o. IsAfter mode s.program (length s.machines) (first_acts b.shared s.run) o P) none x in
       e ∙ sym first
 
   -- what its stem is after
-  to_stem : (m : Move) (P : List Passed) → b.chosen ≡ Some m → IsRunOf s.program (length s.machines) (stem_of s.run b) P
-      → IsAfter t.program (length t.machines) t.run (Some m) P
+  to_stem : (m : Move) (P : List Passed) → b.chosen ≡ Some m → IsRunOf mode s.program (length s.machines) (stem_of s.run b) P
+      → IsAfter mode t.program (length t.machines) t.run (Some m) P
   to_stem m P is x =
-      after_there s t t.run (Some m) P alike
-      (subst (λ C. IsAfter s.program (length s.machines) C (Some m) P) (sym first)
-      (subst (λ o. IsAfter s.program (length s.machines) (first_acts b.shared s.run) o P) is x))
+      after_there mode s t t.run (Some m) P alike
+      (subst (λ C. IsAfter mode s.program (length s.machines) C (Some m) P) (sym first)
+      (subst (λ o. IsAfter mode s.program (length s.machines) (first_acts b.shared s.run) o P) is x))
 
-  from_stem : (m : Move) (P : List Passed) → b.chosen ≡ Some m → IsAfter t.program (length t.machines) t.run (Some m) P
-      → IsRunOf s.program (length s.machines) (stem_of s.run b) P
+  from_stem : (m : Move) (P : List Passed) → b.chosen ≡ Some m → IsAfter mode t.program (length t.machines) t.run (Some m) P
+      → IsRunOf mode s.program (length s.machines) (stem_of s.run b) P
   from_stem m P is x =
-      subst (λ o. IsAfter s.program (length s.machines) (first_acts b.shared s.run) o P) (sym is)
-      (subst (λ C. IsAfter s.program (length s.machines) C (Some m) P) first (after_back s t t.run (Some m) P alike x))
+      subst (λ o. IsAfter mode s.program (length s.machines) (first_acts b.shared s.run) o P) (sym is)
+      (subst (λ C. IsAfter mode s.program (length s.machines) C (Some m) P) first (after_back mode s t t.run (Some m) P alike x))
 
   -- its move may be made
-  pub move_stands : (m : Move) → b.chosen ≡ Some m → (P : List Passed) × IsRunOf s.program (length s.machines) (stem_of s.run b) P
-      → (act : Act) × StandsFor t.program (length t.machines) t.run m act
+  pub move_stands : (m : Move) → b.chosen ≡ Some m → (P : List Passed) × IsRunOf mode s.program (length s.machines) (stem_of s.run b) P
+      → (act : Act) × StandsFor mode t.program (length t.machines) t.run m act
   move_stands m is run = (let x = to_stem m run.0 is run.1 in (x.0, x.1))
 
   -- and leads to its run
-  pub there_moved : (m : Move) (R : List Passed) → b.chosen ≡ Some m → IsAfter t.program (length t.machines) t.run (Some m) R
-      → IsRunOf s.program (length s.machines) (stem_of s.run b) R
+  pub there_moved : (m : Move) (R : List Passed) → b.chosen ≡ Some m → IsAfter mode t.program (length t.machines) t.run (Some m) R
+      → IsRunOf mode s.program (length s.machines) (stem_of s.run b) R
   there_moved m R is x = from_stem m R is x
 
   pub only_moved : (m : Move) (R : List Passed) → b.chosen ≡ Some m
-      → ((P : List Passed) → IsAfter t.program (length t.machines) t.run (Some m) P → P ≡ R)
-      → (P : List Passed) → IsRunOf s.program (length s.machines) (stem_of s.run b) P → P ≡ R
+      → ((P : List Passed) → IsAfter mode t.program (length t.machines) t.run (Some m) P → P ≡ R)
+      → (P : List Passed) → IsRunOf mode s.program (length s.machines) (stem_of s.run b) P → P ≡ R
   only_moved m R is once P x = once P (to_stem m P is x)
 
   -- what goes on behind them begins as the run did

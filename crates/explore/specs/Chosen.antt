@@ -17,6 +17,7 @@ use Rattle.explore.specs.Exploring.{and_then}
 use Rattle.explore.specs.Counting.{HasMade}
 use Rattle.explore.specs.Counts.{Counts}
 use Rattle.explore.specs.Stems.{StandsFor}
+use Rattle.explore.specs.declared.send_mode.SendMode.{SendMode}
 
 -- a probe is wanted, one that waits or one that doesn't
 abbrev pub is_probe : Want → Bool
@@ -35,8 +36,8 @@ IsNotedOf c m = (c.position ≡ m.position) × (c.probes ≡ is_probe (machine_w
 
 -- After this run the noted choice stands for this act, which its rank may make then. The machine
 -- that asks for the act is the one that the rank's history leads to, and stands where the note says.
-pub record IsChoice (program : ProgramValue) (n : ℕ) (P : List Passed) (c : Noted) (act : Act) : Type 0 where
-  pub stands_for : StandsFor program n P c.chosen act
+pub record IsChoice (mode : SendMode) (program : ProgramValue) (n : ℕ) (P : List Passed) (c : Noted) (act : Act) : Type 0 where
+  pub stands_for : StandsFor mode program n P c.chosen act
   pub machine : MachineValue
   pub steps : ℕ
   pub made : HasMade program n c.chosen.rank (history P c.chosen.rank) steps machine
@@ -45,21 +46,21 @@ pub record IsChoice (program : ProgramValue) (n : ℕ) (P : List Passed) (c : No
 
 -- In this run these choices were made, one after another. Each is of one of its acts, and there may
 -- be acts between them.
-pub data MakesChoices (program : ProgramValue) (n : ℕ) : List Passed → List Noted → Type 0 where
-  begins : MakesChoices program n [] []
-  passes : {P : List Passed} {choices : List Noted} (r : ℕ) (act : Act) → MakesChoices program n P choices
-      → MakesChoices program n (and_then P r act) choices
-  chooses : {P : List Passed} {choices : List Noted} (c : Noted) (act : Act) → MakesChoices program n P choices → IsChoice program n P c act
-      → MakesChoices program n (and_then P c.chosen.rank act) (choices ++ c ∷ [])
+pub data MakesChoices (mode : SendMode) (program : ProgramValue) (n : ℕ) : List Passed → List Noted → Type 0 where
+  begins : MakesChoices mode program n [] []
+  passes : {P : List Passed} {choices : List Noted} (r : ℕ) (act : Act) → MakesChoices mode program n P choices
+      → MakesChoices mode program n (and_then P r act) choices
+  chooses : {P : List Passed} {choices : List Noted} (c : Noted) (act : Act) → MakesChoices mode program n P choices → IsChoice mode program n P c act
+      → MakesChoices mode program n (and_then P c.chosen.rank act) (choices ++ c ∷ [])
 
 -- the note is of this move, and of the machine of its rank
 abbrev pub IsNoteAt : List MachineValue → Move → Noted → Type 0
 IsNoteAt machines m c = (c.chosen ≡ m) × IsSomeAnd (slice_get machines m.rank) (λ machine. IsNotedOf c machine)
 
 -- in the run of the path its choices were made
-abbrev pub HasChoices : Path → Type 0
-HasChoices p = MakesChoices p.sim.program (length p.sim.machines) p.sim.run p.choices.items
+abbrev pub HasChoices : SendMode → Path → Type 0
+HasChoices mode p = MakesChoices mode p.sim.program (length p.sim.machines) p.sim.run p.choices.items
 
 -- they were after, if they were before and the steps of each rank are counted
-abbrev pub KeepsChoices : Path → Path → Type 0
-KeepsChoices p p' = (steps : ℕ) → Counts steps p.sim p.left → HasChoices p → HasChoices p'
+abbrev pub KeepsChoices : SendMode → Path → Path → Type 0
+KeepsChoices mode p p' = (steps : ℕ) → Counts steps p.sim p.left → HasChoices mode p → HasChoices mode p'

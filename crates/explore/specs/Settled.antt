@@ -9,6 +9,7 @@ use Rattle.rank_machine.specs.Machine.{MachineValue}
 use Rattle.crash_free.specs.Runs.{Passed, at_place, history, sent, IsEligible}
 use Rattle.crash_free.specs.Sim.{SimValue, inbound_of, start_of}
 use Rattle.explore.specs.Persistent.{GoesOnWithout}
+use Rattle.explore.specs.declared.send_mode.SendMode.TheVariants.{Buffered}
 
 -- each machine is one of the program of the simulation
 abbrev pub AreOfProgram : SimValue → Type 0
@@ -16,7 +17,7 @@ AreOfProgram s = (r : ℕ) (m : MachineValue) → slice_get s.machines r ≡ Som
 
 -- the ranks other than r go on from the run of the simulation to this one
 abbrev pub OthersGoOn : SimValue → ℕ → List Passed → Type 0
-OthersGoOn s r C = GoesOnWithout (start_of s.program (length s.machines)) (length s.machines) r s.run C
+OthersGoOn s r C = GoesOnWithout Buffered (start_of s.program (length s.machines)) (length s.machines) r s.run C
 
 -- however they do, what of this source is eligible for rank r then is so now
 abbrev pub IsSettled : SimValue → ℕ → Selector → ℕ → Type 0

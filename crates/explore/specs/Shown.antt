@@ -12,9 +12,11 @@ use Rattle.rank_machine.specs.Wants.{wants}
 use Rattle.rank_machine.specs.Acts.{Act, sends, takes, hits, misses, prints}
 use Rattle.crash_free.specs.Runs.{Passed, history, IsEligible, MayMake}
 use Rattle.crash_free.specs.Sim.{inbound_of, start_of}
-use Rattle.audit.specs.FinalRuns.Maximal.{RankOutcome, IsOutcomeOf}
+use Rattle.audit.specs.FinalRuns.Maximal.{RankOutcome}
+use Rattle.explore.specs.Sending.{IsOutcomeUnder}
 use Rattle.explore.specs.declared.moves.Noted.{Noted}
 use Rattle.explore.specs.Chosen.{MakesChoices}
+use Rattle.explore.specs.declared.send_mode.SendMode.{SendMode}
 
 -- the act takes or hits the message of this source with this index, from 0, or a later one of it
 abbrev pub shows_it : ℕ → ℕ → Act → Bool
@@ -53,16 +55,16 @@ MissesShown start (p ∷ P) = ((p.act ≡ misses) × MayMissShown start P p.rank
 
 -- The mark of an outcome is that of some maximal run that has it, and in which the choices were made
 -- that are noted with it: whether in this run a rank misses a message that it was shown.
-pub record IsMark (program : ProgramValue) (n : ℕ) (o : List RankOutcome) (choices : List Noted) (mark : Bool) : Type 0 where
+pub record IsMark (mode : SendMode) (program : ProgramValue) (n : ℕ) (o : List RankOutcome) (choices : List Noted) (mark : Bool) : Type 0 where
   pub run : List Passed
-  pub outcome : IsOutcomeOf (start_of program n) n run o
-  pub chosen : MakesChoices program n run choices
+  pub outcome : IsOutcomeUnder mode (start_of program n) n run o
+  pub chosen : MakesChoices mode program n run choices
   pub yes : mark ≡ true → MissesShown (start_of program n) run
   pub no : mark ≡ false → MissesShown (start_of program n) run → ⊥
 
 -- each outcome has its mark, or none if its run wasn't found again
-pub record AreMarked (program : ProgramValue) (n : ℕ) (outcomes : List (List RankOutcome)) (choices : List (List Noted)) (marks : List (Option Bool))
+pub record AreMarked (mode : SendMode) (program : ProgramValue) (n : ℕ) (outcomes : List (List RankOutcome)) (choices : List (List Noted)) (marks : List (Option Bool))
     : Type 0 where
   pub as_many : length marks ≡ length outcomes
   pub each : (i : ℕ) (o : List RankOutcome) (cs : List Noted) (mark : Option Bool) → slice_get outcomes i ≡ Some o → slice_get choices i ≡ Some cs
-      → slice_get marks i ≡ Some mark → IfSome mark (IsMark program n o cs)
+      → slice_get marks i ≡ Some mark → IfSome mark (IsMark mode program n o cs)

@@ -9,9 +9,10 @@ use Rattle.crash_free.specs.Sim.{choice_of, start_of}
 pub use Rattle.crash_free.specs.Points.{first_acts, GoesBehind}
 use Rattle.explore.specs.declared.branch.Branch.{Branch}
 use Rattle.explore.specs.declared.moves.Move.{Move}
-use Rattle.audit.specs.FinalRuns.Maximal.{MayFollow}
+use Rattle.explore.specs.Sending.{MayFollowUnder}
 use Rattle.explore.specs.Exploring.{and_then}
 use Rattle.explore.specs.Outcomes.{IsAmong}
+use Rattle.explore.specs.declared.send_mode.SendMode.{SendMode}
 
 -- a beginning of a run, and the move that is to be made there, if one is
 pub record Stem : Type 0 where
@@ -31,24 +32,24 @@ abbrev pub stems_of : List Passed → List Branch → List Stem
 stems_of C pending = map (stem_of C) pending
 
 -- the move stands for this act, which may follow the run
-abbrev pub StandsFor : ProgramValue → ℕ → List Passed → Move → Act → Type 0
-StandsFor program n C m act = MayFollow (start_of program n) n C m.rank act × (choice_of act ≡ m.choice)
+abbrev pub StandsFor : SendMode → ProgramValue → ℕ → List Passed → Move → Act → Type 0
+StandsFor mode program n C m act = MayFollowUnder mode (start_of program n) n C m.rank act × (choice_of act ≡ m.choice)
 
 -- the second run is the first, with an act more that the move stands for, if there is a move
-abbrev pub IsAfter : ProgramValue → ℕ → List Passed → Option Move → List Passed → Type 0
-IsAfter program n C None P = P ≡ C
-IsAfter program n C (Some m) P = (act : Act) × StandsFor program n C m act × (P ≡ and_then C m.rank act)
+abbrev pub IsAfter : SendMode → ProgramValue → ℕ → List Passed → Option Move → List Passed → Type 0
+IsAfter mode program n C None P = P ≡ C
+IsAfter mode program n C (Some m) P = (act : Act) × StandsFor mode program n C m act × (P ≡ and_then C m.rank act)
 
 -- so it is of the stem
-abbrev pub IsRunOf : ProgramValue → ℕ → Stem → List Passed → Type 0
-IsRunOf program n x P = IsAfter program n x.before x.chosen P
+abbrev pub IsRunOf : SendMode → ProgramValue → ℕ → Stem → List Passed → Type 0
+IsRunOf mode program n x P = IsAfter mode program n x.before x.chosen P
 
 -- the run is left to one of the stems
-abbrev pub IsLeftTo : ProgramValue → ℕ → List Stem → List Passed → Type 0
-IsLeftTo program n pending P = (x : Stem) × IsAmong pending x × IsRunOf program n x P
+abbrev pub IsLeftTo : SendMode → ProgramValue → ℕ → List Stem → List Passed → Type 0
+IsLeftTo mode program n pending P = (x : Stem) × IsAmong pending x × IsRunOf mode program n x P
 
 -- The branches go off this run, none behind one that shares more of it, and there is a run of each.
-pub record GoOff (program : ProgramValue) (n : ℕ) (C : List Passed) (pending : List Branch) : Type 0 where
+pub record GoOff (mode : SendMode) (program : ProgramValue) (n : ℕ) (C : List Passed) (pending : List Branch) : Type 0 where
   pub within : (b : Branch) → IsAmong pending b → b.shared ≤ length C
   pub rising : (i j : ℕ) (b c : Branch) → i ≤ j → slice_get pending i ≡ Some b → slice_get pending j ≡ Some c → b.shared ≤ c.shared
-  pub some_run : (b : Branch) → IsAmong pending b → (P : List Passed) × IsRunOf program n (stem_of C b) P
+  pub some_run : (b : Branch) → IsAmong pending b → (P : List Passed) × IsRunOf mode program n (stem_of C b) P

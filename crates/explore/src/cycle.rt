@@ -6,6 +6,7 @@ ghost use Rattle.crash_free.specs.Sim.{Simulates};
 ghost use Rattle.crash_free.specs.Wanted.{StandsAtAct};
 ghost use Rattle.explore.specs.Cycles.{GoesFurther, MayGoOnForEver};
 ghost use Rattle.explore.specs.Outcomes.{IsAmong};
+ghost use Rattle.explore.specs.Sending.{HasRunUnder, IsReleasedAt};
 
 mod mark;
 
@@ -13,6 +14,8 @@ use crate::bounds::Limits;
 use crate::cycle::mark::CycleMark;
 use crate::moves::{Move, add_moves};
 use crate::path::Path;
+use crate::released::is_released;
+use crate::send_mode::SendMode;
 use crate::steps::go_on;
 use crash_free::live_variables::Live;
 use limits::Heap;
@@ -38,32 +41,39 @@ pub struct Cycle {
 /// no rank has steps left, or after many rounds. An `Err` means out of memory.
 pub fn came_back(
     alloc: Heap,
+    mode: SendMode,
     program: &Program,
     ranks: u8,
     limits: Limits,
 ) -> Result<Option<Cycle>, AllocError>
     requires some { 1 ≤ ranks }
     requires few { ranks ≤ most_ranks }
-    ensures { IfOk result (λ found. IfSome found (λ _. MayGoOnForEver program.now ranks)) }
+    ensures { IfOk result (λ found. IfSome found (λ _. MayGoOnForEver mode program.now ranks)) }
 {
     let live = Live::of(alloc, program)?;
     let mut path = Path::new(alloc, program, ranks, limits.steps)?;
-    follow(alloc, &mut path, &live)
+    follow(alloc, mode, &mut path, &live)
 }
 
 // Goes on with the path until a state comes back.
-fn follow(alloc: Heap, path: &mut Path<'_>, live: &Live) -> Result<Option<Cycle>, AllocError>
+fn follow(
+    alloc: Heap,
+    mode: SendMode,
+    path: &mut Path<'_>,
+    live: &Live,
+) -> Result<Option<Cycle>, AllocError>
     requires few { length path.old.sim.machines ≤ most_ranks }
     requires stands { Simulates path.old.sim }
+    requires is_run { HasRunUnder mode path.old.sim }
     requires table { IsTableOf path.old.sim.program live.now }
-    ensures { IfOk result (λ found. IfSome found (λ _. MayGoOnForEver path.old.sim.program (length path.old.sim.machines))) }
+    ensures { IfOk result (λ found. IfSome found (λ _. MayGoOnForEver mode path.old.sim.program (length path.old.sim.machines))) }
 {
     let mut mark = CycleMark::new(alloc, &path.sim, live)?;
     for _ in 0..MOST_ROUNDS {
-        if !round(alloc, path, &mut mark.positions)? {
+        if !round(alloc, mode, path, &mut mark.positions)? {
             return Ok(None);
         }
-        if mark.is_met(&path.sim, live)? {
+        if mark.is_met(mode, &path.sim, live)? {
             return Ok(Some(mark.into_cycle(&path.sim)));
         }
         mark.pass(&path.sim, live)?;
@@ -75,19 +85,20 @@ fn follow(alloc: Heap, path: &mut Path<'_>, live: &Live) -> Result<Option<Cycle>
 // at which one did are added.
 fn round(
     alloc: Heap,
+    mode: SendMode,
     path: &mut Path<'_>,
     positions: &mut Vec<usize, Heap>,
 ) -> Result<bool, AllocError>
     requires few { length path.old.sim.machines ≤ most_ranks }
     requires stands { Simulates path.old.sim }
-    ensures { OnOk result (GoesFurther path.old.sim path.new.sim) }
+    ensures { OnOk result (GoesFurther mode path.old.sim path.new.sim) }
 {
     let ranks = path.sim.ranks();
     let mut some = false;
     let mut rank = 0;
     while rank < ranks {
         let position = path.sim.machine(rank).position();
-        if go_further(alloc, path, rank)? {
+        if go_further(alloc, mode, path, rank)? {
             some = true;
             note(positions, position)?;
         }
@@ -105,34 +116,46 @@ fn note(positions: &mut Vec<usize, Heap>, position: usize) -> Result<(), AllocEr
 }
 
 // The rank makes steps of its own, and the act behind them if that is fixed; if there are none, it
-// makes the last of the acts that it may make. Answers whether it went on.
-fn go_further(alloc: Heap, path: &mut Path<'_>, rank: u8) -> Result<bool, AllocError>
+// makes the last of the acts that it may make. A rank that a send holds does nothing. Answers whether
+// it went on.
+fn go_further(
+    alloc: Heap,
+    mode: SendMode,
+    path: &mut Path<'_>,
+    rank: u8,
+) -> Result<bool, AllocError>
     requires rank { rank < length path.old.sim.machines }
     requires few { length path.old.sim.machines ≤ most_ranks }
     requires stands { Simulates path.old.sim }
-    ensures { OnOk result (GoesFurther path.old.sim path.new.sim) }
+    ensures { OnOk result (GoesFurther mode path.old.sim path.new.sim) }
 {
     let left = path.left[usize::from(rank)];
-    let made = go_on(&mut path.sim, rank, left)?;
+    let made = go_on(mode, &mut path.sim, rank, left)?;
     path.left[usize::from(rank)] = left - made.count;
     if made.acted || made.count > 0 {
         return Ok(true);
     }
-    if left == 0 {
+    if left == 0 || !is_released(mode, &path.sim, rank) {
         return Ok(false);
     }
-    choose_last(alloc, path, rank)
+    choose_last(alloc, mode, path, rank)
 }
 
 // The rank makes the last of the acts that it may make: a miss, where there is one. Answers whether
 // there was any.
-fn choose_last(alloc: Heap, path: &mut Path<'_>, rank: u8) -> Result<bool, AllocError>
+fn choose_last(
+    alloc: Heap,
+    mode: SendMode,
+    path: &mut Path<'_>,
+    rank: u8,
+) -> Result<bool, AllocError>
     requires rank { rank < length path.old.sim.machines }
     requires few { length path.old.sim.machines ≤ most_ranks }
     requires stands { Simulates path.old.sim }
+    requires released { IsReleasedAt mode path.old.sim rank }
     requires at { StandsAtAct path.old.sim.machines rank }
     requires left { 0 < slice_index path.old.left rank }
-    ensures { OnOk result (GoesFurther path.old.sim path.new.sim) }
+    ensures { OnOk result (GoesFurther mode path.old.sim path.new.sim) }
 {
     let mut found = Vec::new(alloc);
     if !add_moves(&path.sim, rank, &mut found)? {

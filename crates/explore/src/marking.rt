@@ -18,6 +18,7 @@ use crate::bounds::Limits;
 use crate::explored::FoundOutcome;
 use crate::last_shown::LastShown;
 use crate::replay::run_of;
+use crate::send_mode::SendMode;
 use crash_free::{Act, Passed, Sim};
 use limits::Heap;
 use matching::Selector;
@@ -32,6 +33,7 @@ use std::alloc::AllocError;
 #[tactic(auto, using(crate::proofs::Shown::marked_more))]
 pub fn marks_of(
     alloc: Heap,
+    mode: SendMode,
     program: &Program,
     ranks: u8,
     limits: Limits,
@@ -39,12 +41,12 @@ pub fn marks_of(
 ) -> Result<Vec<Option<bool>, Heap>, AllocError>
     requires some { 1 ≤ ranks }
     requires few { ranks ≤ most_ranks }
-    ensures { IfOk result (λ marks. AreMarked program.now ranks (rank_outcomes outcomes.now) (noted_choices outcomes.now) marks.items) }
+    ensures { IfOk result (λ marks. AreMarked mode program.now ranks (rank_outcomes outcomes.now) (noted_choices outcomes.now) marks.items) }
 {
     let mut marks = Vec::new(alloc);
     for at in 0..outcomes.len() {
         let outcome = outcome_at(outcomes, at);
-        marks.push(mark_of(alloc, program, ranks, limits, outcome)?)?;
+        marks.push(mark_of(alloc, mode, program, ranks, limits, outcome)?)?;
     }
     Ok(marks)
 }
@@ -59,6 +61,7 @@ fn outcome_at(outcomes: &[FoundOutcome], at: usize) -> &FoundOutcome
 #[tactic(auto, using(crate::proofs::Shown::run_back, crate::proofs::Shown::mark_there))]
 fn mark_of(
     alloc: Heap,
+    mode: SendMode,
     program: &Program,
     ranks: u8,
     limits: Limits,
@@ -66,9 +69,9 @@ fn mark_of(
 ) -> Result<Option<bool>, AllocError>
     requires some { 1 ≤ ranks }
     requires few { ranks ≤ most_ranks }
-    ensures { IfOk result (λ mark. IfSome mark (IsMark program.now ranks outcome.now.ranks outcome.now.choices)) }
+    ensures { IfOk result (λ mark. IfSome mark (IsMark mode program.now ranks outcome.now.ranks outcome.now.choices)) }
 {
-    let Some(run) = run_of(alloc, program, ranks, limits, outcome)? else {
+    let Some(run) = run_of(alloc, mode, program, ranks, limits, outcome)? else {
         return Ok(None);
     };
     misses_shown(alloc, program, ranks, limits.steps, run.acts())

@@ -5,6 +5,7 @@ ghost use Rattle.crash_free.specs.Sim.{Simulates};
 ghost use Rattle.explore.specs.Narrowing.{AreKept, IsEnough, is_of};
 ghost use Rattle.explore.specs.Settled.{AreOfProgram};
 ghost use Rattle.explore.specs.Silences.{IsTableOf};
+ghost use Rattle.explore.specs.declared.send_mode.SendMode.TheVariants.{Buffered};
 
 use crate::moves::Move;
 use crate::persistent::is_persistent;
@@ -19,7 +20,7 @@ pub fn keep_persistent(sim: &Sim<'_>, silences: &Silences, moves: &mut Vec<Move,
     requires stands { Simulates sim.now }
     requires programs { AreOfProgram sim.now }
     requires table { IsTableOf sim.now.program silences.now }
-    ensures kept { AreKept sim.now moves.old.items moves.new.items }
+    ensures kept { AreKept Buffered sim.now moves.old.items moves.new.items }
 {
     if let Some(rank) = first_persistent(sim, silences, moves) {
         keep_own(moves, rank);
@@ -31,7 +32,7 @@ fn first_persistent(sim: &Sim<'_>, silences: &Silences, moves: &[Move]) -> Optio
     requires stands { Simulates sim.now }
     requires programs { AreOfProgram sim.now }
     requires table { IsTableOf sim.now.program silences.now }
-    ensures enough { IfSome result (λ rank. IsEnough sim.now moves.now rank) }
+    ensures enough { IfSome result (λ rank. IsEnough Buffered sim.now moves.now rank) }
 {
     let ranks = sim.ranks();
     let mut rank = 0;

@@ -13,13 +13,14 @@ use crate::branch::Branch;
 use crate::explored::Explored;
 use crate::found::Found;
 use crate::met::Met;
+use crate::outcome::outcome_of;
 use crate::path::Path;
 use crate::play::{PathEnd, play};
 use crate::races::Races;
+use crate::send_mode::SendMode;
 use crate::stops::Stops;
 use crate::tables::ProgramTables;
 use crate::taking::take_up;
-use audit::final_runs::outcome_of;
 use limits::Heap;
 use rank_language::Program;
 use std::alloc::AllocError;
@@ -52,7 +53,7 @@ impl<'p> Search<'p> {
     ) -> Result<Search<'p>, AllocError>
         requires some { 1 ≤ ranks }
         requires few { ranks ≤ most_ranks }
-        ensures on { IfOk result (λ s. IsOn program.entry.now ranks s.path.sim s.pending.items s.found s.met s.out_of_steps) }
+        ensures on { IfOk result (λ s. (mode : SendMode) → IsOn mode program.entry.now ranks s.path.sim s.pending.items s.found s.met s.out_of_steps) }
         ensures all { IfOk result (λ s. stems_of s.path.sim.run s.pending.items ≡ whole ∷ []) }
         ensures uncut { IfOk result (λ s. s.out_of_steps ≡ false) }
         ensures back { IfOk result (λ s. CanGoBack limits.steps s.path.sim s.path.left s.stops) }
@@ -80,25 +81,30 @@ impl<'p> Search<'p> {
     /// Takes up branches, the last one first, until one comes to where no run
     /// stood, and looks at its run. Answers whether there was one. An `Err` means
     /// out of memory.
-    pub fn look_on(&mut self, alloc: Heap, tables: &ProgramTables) -> Result<bool, AllocError>
+    pub fn look_on(
+        &mut self,
+        alloc: Heap,
+        mode: SendMode,
+        tables: &ProgramTables,
+    ) -> Result<bool, AllocError>
         requires few { length self.old.path.sim.machines ≤ most_ranks }
         requires tables { AreTablesOf self.old.path.sim.program tables.now }
         requires back { (steps : ℕ) × CanGoBack steps self.old.path.sim self.old.path.left self.old.stops }
-        requires on { IsOn self.old.path.sim.program (length self.old.path.sim.machines) self.old.path.sim self.old.pending.items
+        requires on { IsOn mode self.old.path.sim.program (length self.old.path.sim.machines) self.old.path.sim self.old.pending.items
             self.old.found self.old.met self.old.out_of_steps }
-        ensures on { IfOk result (λ _. IsOn self.old.path.sim.program (length self.old.path.sim.machines) self.new.path.sim self.new.pending.items
+        ensures on { IfOk result (λ _. IsOn mode self.old.path.sim.program (length self.old.path.sim.machines) self.new.path.sim self.new.pending.items
             self.new.found self.new.met self.new.out_of_steps) }
         ensures none { result ≡ Ok false → self.new.pending.items ≡ [] }
         ensures closes { IfOk result (λ _. self.new.met.closes ≡ self.old.met.closes) }
-        ensures enough { result ≡ Ok true → NeedsFewer self.old.path.sim.program (length self.old.path.sim.machines) self.old.path.sim.run
+        ensures enough { result ≡ Ok true → NeedsFewer mode self.old.path.sim.program (length self.old.path.sim.machines) self.old.path.sim.run
             self.old.pending.items self.new.path.sim.run self.new.pending.items }
         ensures back { IfOk result (λ _. KeepsStops self.old.path.sim self.old.path.left self.old.stops self.new.path.sim self.new.path.left self.new.stops) }
         ensures beyond { IfOk result (λ _. (steps : ℕ) → CanGoBack steps self.old.path.sim self.old.path.left self.old.stops
-            → (self.old.out_of_steps ≡ true → GoesBeyond self.old.path.sim.program (length self.old.path.sim.machines) steps)
-            → self.new.out_of_steps ≡ true → GoesBeyond self.old.path.sim.program (length self.old.path.sim.machines) steps) }
+            → (self.old.out_of_steps ≡ true → GoesBeyond mode self.old.path.sim.program (length self.old.path.sim.machines) steps)
+            → self.new.out_of_steps ≡ true → GoesBeyond mode self.old.path.sim.program (length self.old.path.sim.machines) steps) }
     {
         while let Some(branch) = self.pending.pop() {
-            if self.look(alloc, tables, branch)? {
+            if self.look(alloc, mode, tables, branch)? {
                 return Ok(true);
             }
         }
@@ -111,32 +117,34 @@ impl<'p> Search<'p> {
     fn look(
         &mut self,
         alloc: Heap,
+        mode: SendMode,
         tables: &ProgramTables,
         branch: Branch,
     ) -> Result<bool, AllocError>
         requires few { length self.old.path.sim.machines ≤ most_ranks }
         requires tables { AreTablesOf self.old.path.sim.program tables.now }
         requires back { (steps : ℕ) × CanGoBack steps self.old.path.sim self.old.path.left self.old.stops }
-        requires on { IsOn self.old.path.sim.program (length self.old.path.sim.machines) self.old.path.sim (self.old.pending.items ++ branch ∷ [])
+        requires on { IsOn mode self.old.path.sim.program (length self.old.path.sim.machines) self.old.path.sim (self.old.pending.items ++ branch ∷ [])
             self.old.found self.old.met self.old.out_of_steps }
-        ensures on { IfOk result (λ _. IsOn self.old.path.sim.program (length self.old.path.sim.machines) self.new.path.sim self.new.pending.items
+        ensures on { IfOk result (λ _. IsOn mode self.old.path.sim.program (length self.old.path.sim.machines) self.new.path.sim self.new.pending.items
             self.new.found self.new.met self.new.out_of_steps) }
         ensures fewer { result ≡ Ok false → length self.new.pending.items ≤ length self.old.pending.items }
         ensures closes { IfOk result (λ _. self.new.met.closes ≡ self.old.met.closes) }
-        ensures enough { IfOk result (λ _. NeedsFewer self.old.path.sim.program (length self.old.path.sim.machines) self.old.path.sim.run
+        ensures enough { IfOk result (λ _. NeedsFewer mode self.old.path.sim.program (length self.old.path.sim.machines) self.old.path.sim.run
             (self.old.pending.items ++ branch ∷ []) self.new.path.sim.run self.new.pending.items) }
         ensures back { IfOk result (λ _. KeepsStops self.old.path.sim self.old.path.left self.old.stops self.new.path.sim self.new.path.left self.new.stops) }
         ensures beyond { IfOk result (λ _. (steps : ℕ) → CanGoBack steps self.old.path.sim self.old.path.left self.old.stops
-            → (self.old.out_of_steps ≡ true → GoesBeyond self.old.path.sim.program (length self.old.path.sim.machines) steps)
-            → self.new.out_of_steps ≡ true → GoesBeyond self.old.path.sim.program (length self.old.path.sim.machines) steps) }
+            → (self.old.out_of_steps ≡ true → GoesBeyond mode self.old.path.sim.program (length self.old.path.sim.machines) steps)
+            → self.new.out_of_steps ≡ true → GoesBeyond mode self.old.path.sim.program (length self.old.path.sim.machines) steps) }
     {
-        if !take_up(&mut self.path, &mut self.stops, branch)? {
+        if !take_up(mode, &mut self.path, &mut self.stops, branch)? {
             self.out_of_steps = true;
             return Ok(true);
         }
         let others = self.pending.len();
         match play(
             alloc,
+            mode,
             &mut self.path,
             &mut self.stops,
             &mut self.pending,
@@ -145,7 +153,7 @@ impl<'p> Search<'p> {
             &mut self.races,
         )? {
             PathEnd::Still => {
-                let ranks = outcome_of(alloc, &self.path.sim)?;
+                let ranks = outcome_of(alloc, mode, &self.path.sim)?;
                 let left = self.path.sim.left()?;
                 self.found.note(ranks, left, self.path.choices.as_slice())?;
                 Ok(true)

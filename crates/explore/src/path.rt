@@ -26,6 +26,8 @@ pub struct Path<'p> {
 impl<'p> Path<'p> {
     ghost use Rattle.explore.specs.Chosen.{KeepsChoices};
     ghost use Rattle.explore.specs.Counts.{Counts, KeepsCount};
+    ghost use Rattle.explore.specs.Sending.{IsReleasedAt};
+    ghost use Rattle.explore.specs.declared.send_mode.SendMode.{SendMode};
     ghost use Rattle.explore.specs.Searching.{Begins};
 
     /// The empty run of a program on so many ranks, each of which has so many
@@ -61,7 +63,7 @@ impl<'p> Path<'p> {
         ensures stands { OnOk result (Simulates self.new.sim) }
         ensures less { OnOk result (sum self.new.left < sum self.old.left) }
         ensures counts { OnOk result (KeepsCount self.old.sim self.old.left self.new.sim self.new.left) }
-        ensures choices { OnOk result (KeepsChoices self.old self.new) }
+        ensures choices { OnOk result ((mode : SendMode) → IsReleasedAt mode self.old.sim chosen.rank → KeepsChoices mode self.old self.new) }
     {
         let _ = self.sim.ranks();
         let noted = noted(&self.sim, chosen);

@@ -5,6 +5,7 @@ ghost use Rattle.crash_free.specs.Sim.{Simulates, start_of};
 ghost use Rattle.explore.specs.Persistent.{IsPersistent};
 ghost use Rattle.explore.specs.Settled.{AreOfProgram, HasSentAll, IsSettled};
 ghost use Rattle.explore.specs.Silences.{IsTableOf};
+ghost use Rattle.explore.specs.declared.send_mode.SendMode.TheVariants.{Buffered};
 
 use crate::silences::{Silences, Sought};
 use crash_free::Sim;
@@ -21,7 +22,7 @@ pub fn is_persistent(sim: &Sim<'_>, silences: &Silences, rank: u8) -> bool
     requires programs { AreOfProgram sim.now }
     requires table { IsTableOf sim.now.program silences.now }
     requires rank { rank < length sim.now.machines }
-    ensures { result ≡ true → IsPersistent (start_of sim.now.program (length sim.now.machines)) (length sim.now.machines) sim.now.run rank }
+    ensures { result ≡ true → IsPersistent Buffered (start_of sim.now.program (length sim.now.machines)) (length sim.now.machines) sim.now.run rank }
 {
     match sim.wants(rank) {
         Want::Receive(selector) => are_settled(sim, silences, rank, &selector),

@@ -2,7 +2,7 @@
 ghost use Rattle.std.specs.Prelude.{◌≡◌, ◌<◌, ◌≤◌, IsSomeAnd, length, slice_get};
 ghost use Rattle.rank_machine.specs.Machine.{machine_want};
 ghost use Rattle.explore.specs.Chosen.{is_probe};
-ghost use Rattle.explore.specs.Moves.{AreOfRanks};
+ghost use Rattle.explore.specs.Outcomes.{IsAmong};
 
 use crate::moves::Move;
 use crash_free::{Choice, Sim};
@@ -40,7 +40,7 @@ impl Races {
     /// Notes the ranks that have several of these moves, which stand rank by
     /// rank. An `Err` means out of memory.
     pub fn note(&mut self, sim: &Sim<'_>, moves: &[Move]) -> Result<(), AllocError>
-        requires { AreOfRanks sim.now moves.now }
+        requires { (m : Move) → IsAmong moves.now m → m.rank < length sim.now.machines }
     {
         let mut at = 1;
         while at < moves.len() {

@@ -10,6 +10,7 @@ ghost use Rattle.explore.specs.Counting.{GoesBeyond};
 ghost use Rattle.explore.specs.Counts.{Counts, KeepsCount, NeedsAtMost};
 ghost use Rattle.explore.specs.Searching.{IsAlike};
 ghost use Rattle.explore.specs.Stems.{GoesBehind, IsAfter, IsRunOf, StandsFor, first_acts, stem_of};
+ghost use Rattle.explore.specs.Sending.{HasRunUnder};
 ghost use Rattle.explore.specs.Stops.{AreStops, AreWithin, CanGoBack, KeepsStops};
 ghost use Rattle.audit.specs.FinalRuns.Maximal.{MayFollow};
 
@@ -17,6 +18,7 @@ use crate::again::{act_at, make};
 use crate::branch::Branch;
 use crate::moves::Move;
 use crate::path::Path;
+use crate::send_mode::SendMode;
 use crate::stops::Stops;
 use crash_free::{Passed, Sim};
 use limits::{Heap, MOST_RANKS};
@@ -27,29 +29,32 @@ use std::alloc::AllocError;
 /// it once more, and then its move. Answers whether the rank of the move has
 /// steps enough. An `Err` means out of memory.
 pub fn take_up<'p>(
+    mode: SendMode,
     path: &mut Path<'p>,
     stops: &mut Stops<'p>,
     branch: Branch,
 ) -> Result<bool, AllocError>
     requires few { length path.old.sim.machines ≤ most_ranks }
     requires within { branch.shared ≤ length path.old.sim.run }
-    requires some_run { (P : List runs.Passed) × IsRunOf path.old.sim.program (length path.old.sim.machines) (stem_of path.old.sim.run branch) P }
+    requires is_run { HasRunUnder mode path.old.sim }
+    requires some_run { (P : List runs.Passed) × IsRunOf mode path.old.sim.program (length path.old.sim.machines) (stem_of path.old.sim.run branch) P }
     requires back { (steps : ℕ) × CanGoBack steps path.old.sim path.old.left stops.old }
     ensures alike { IfOk result (λ _. IsAlike path.old.sim path.new.sim) }
     ensures stands { IfOk result (λ _. Simulates path.new.sim) }
-    ensures made { result ≡ Ok true → IsRunOf path.old.sim.program (length path.old.sim.machines) (stem_of path.old.sim.run branch) path.new.sim.run }
-    ensures only { result ≡ Ok true → (P : List runs.Passed) → IsRunOf path.old.sim.program (length path.old.sim.machines) (stem_of path.old.sim.run branch) P
+    ensures made { result ≡ Ok true → IsRunOf mode path.old.sim.program (length path.old.sim.machines) (stem_of path.old.sim.run branch) path.new.sim.run }
+    ensures is_run { IfOk result (λ _. HasRunUnder mode path.new.sim) }
+    ensures only { result ≡ Ok true → (P : List runs.Passed) → IsRunOf mode path.old.sim.program (length path.old.sim.machines) (stem_of path.old.sim.run branch) P
         → P ≡ path.new.sim.run }
     ensures shares { IfOk result (λ _. (k : ℕ) → k ≤ branch.shared → first_acts k path.new.sim.run ≡ first_acts k path.old.sim.run) }
     ensures long { IfOk result (λ _. branch.shared ≤ length path.new.sim.run) }
     ensures back { IfOk result (λ _. KeepsStops path.old.sim path.old.left stops.old path.new.sim path.new.left stops.new) }
     ensures beyond { result ≡ Ok false → (steps : ℕ) → CanGoBack steps path.old.sim path.old.left stops.old
-        → GoesBeyond path.old.sim.program (length path.old.sim.machines) steps }
+        → GoesBeyond mode path.old.sim.program (length path.old.sim.machines) steps }
 {
     make_first(path, stops, branch.shared)?;
     path.choices.truncate(branch.choices);
     match branch.chosen {
-        Some(chosen) => go_off(path, chosen),
+        Some(chosen) => go_off(mode, path, chosen),
         None => Ok(true),
     }
 }
@@ -165,19 +170,21 @@ fn comes_to_act(sim: &mut Sim<'_>, left: &mut [u32; MOST_RANKS], rank: u8) -> bo
 
 // Makes the move of a branch, and before it the steps of its rank's own. Answers whether the rank
 // had as many steps left.
-fn go_off(path: &mut Path<'_>, chosen: Move) -> Result<bool, AllocError>
+fn go_off(mode: SendMode, path: &mut Path<'_>, chosen: Move) -> Result<bool, AllocError>
     requires few { length path.old.sim.machines ≤ most_ranks }
     requires stands { Simulates path.old.sim }
-    requires some_run { (act : Act) × StandsFor path.old.sim.program (length path.old.sim.machines) path.old.sim.run chosen act }
+    requires is_run { HasRunUnder mode path.old.sim }
+    requires some_run { (act : Act) × StandsFor mode path.old.sim.program (length path.old.sim.machines) path.old.sim.run chosen act }
     ensures alike { OnOk result (IsAlike path.old.sim path.new.sim) }
     ensures stands { OnOk result (Simulates path.new.sim) }
+    ensures is_run { IfOk result (λ _. HasRunUnder mode path.new.sim) }
     ensures behind { OnOk result (GoesBehind path.old.sim.run path.new.sim.run) }
-    ensures made { result ≡ Ok true → IsAfter path.old.sim.program (length path.old.sim.machines) path.old.sim.run (Some chosen) path.new.sim.run }
-    ensures only { result ≡ Ok true → (P : List runs.Passed) → IsAfter path.old.sim.program (length path.old.sim.machines) path.old.sim.run (Some chosen) P
+    ensures made { result ≡ Ok true → IsAfter mode path.old.sim.program (length path.old.sim.machines) path.old.sim.run (Some chosen) path.new.sim.run }
+    ensures only { result ≡ Ok true → (P : List runs.Passed) → IsAfter mode path.old.sim.program (length path.old.sim.machines) path.old.sim.run (Some chosen) P
         → P ≡ path.new.sim.run }
     ensures counts { OnOk result (KeepsCount path.old.sim path.old.left path.new.sim path.new.left) }
     ensures beyond { result ≡ Ok false → (steps : ℕ) → Counts steps path.old.sim path.old.left
-        → GoesBeyond path.old.sim.program (length path.old.sim.machines) steps }
+        → GoesBeyond mode path.old.sim.program (length path.old.sim.machines) steps }
 {
     if !comes_to_act(&mut path.sim, &mut path.left, chosen.rank) {
         return Ok(false);

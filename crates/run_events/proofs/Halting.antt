@@ -13,6 +13,9 @@ use Rattle.audit.specs.FinalRuns.Maximal.{RankOutcome}
 use Rattle.audit.proofs.FinalRunsLaws.Ending.{final_is_possible}
 use Rattle.explore.specs.Outcomes.{AreAll}
 use Rattle.run_events.specs.Halting.{Halts, AllHalt, HaveHalted}
+use Rattle.crash_free.specs.Sim.{start_of}
+use Rattle.explore.specs.declared.send_mode.SendMode.TheVariants.{Buffered}
+use Rattle.explore.proofs.Outcomes.{outcome_buffered}
 
 -- each rank is seen, with its end
 seen_at : (k : ℕ) (lines : List Line) (ends : List End) (r : ℕ) (e : End) → slice_get ends r ≡ Some e
@@ -42,8 +45,9 @@ ends_halted k lines ends halts =
         (All-get_or (λ (z : RankOutcome). z.end ≡ end.Halted) xs r seen.0 (slice_get_within xs r seen.0 seen.1) halts)
 
 -- so each has halted
-pub all_halted : (program : ProgramValue) (n : ℕ) (outcomes : List (List RankOutcome)) (o : OutcomeValue) → AreAll program n outcomes
+pub all_halted : (program : ProgramValue) (n : ℕ) (outcomes : List (List RankOutcome)) (o : OutcomeValue) → AreAll Buffered program n outcomes
     → AllHalt outcomes → IsFinal program n o → NoneIsUnfinished o.ends → HaveHalted o.ends
 all_halted program n outcomes o all halt final none =
-    let found = all.no_others (seen_of o) (final_is_possible program n o final none) in
+    let it = final_is_possible program n o final none in
+    let found = all.no_others (seen_of o) (it.0, outcome_buffered (start_of program n) n it.0 (seen_of o) it.1) in
     ends_halted 0 o.lines o.ends (halts_among outcomes (seen_of o) found.0 found.1 halt)

@@ -21,6 +21,9 @@ use Rattle.explore.proofs.Ending.{along, none_missing}
 use Rattle.bare_world.specs.World.{WorldValue, size}
 use Rattle.bare_world.specs.Headline.{StandsFor}
 use Rattle.run_events.specs.Masking.{values_of, ArePrintedIn, EndsAmong, MasksCrashes, IsMasked}
+use Rattle.explore.specs.declared.send_mode.SendMode.TheVariants.{Buffered}
+use Rattle.explore.proofs.Outcomes.{outcome_buffered, outcome_plain}
+use Rattle.explore.proofs.Sending.{buffered_run}
 
 -- a run that a run is part of, and that has an outcome which was found
 record EndsIn (start : ℕ → State) (n : ℕ) (found : List RankOutcome → Type 0) (C : List Passed) : Type 0 where
@@ -31,9 +34,9 @@ record EndsIn (start : ℕ → State) (n : ℕ) (found : List RankOutcome → Ty
   part : IsPartOf C last
 
 -- where each way on comes to an end that is found, there is one
-ends_in : (start : ℕ → State) (n : ℕ) (found : List RankOutcome → Type 0) (C : List Passed) → AlwaysEndsIn start n found C → EndsIn start n found C
+ends_in : (start : ℕ → State) (n : ℕ) (found : List RankOutcome → Type 0) (C : List Passed) → AlwaysEndsIn Buffered start n found C → EndsIn start n found C
 ends_in start n found C (at_end o is_its is_found) =
-    record { last = C; outcome = o; is_its = is_its; is_found = is_found; part = λ r. ([], sym (append-nil (history C r))) }
+    record { last = C; outcome = o; is_its = outcome_plain start n C o is_its; is_found = is_found; part = λ r. ([], sym (append-nil (history C r))) }
 ends_in start n found C (goes_on r act may further) =
     let more = ends_in start n found (and_then C r act) (further r act may) in
     record {
@@ -59,7 +62,7 @@ masked : (program : ProgramValue) (n : ℕ) (outcomes : List (List RankOutcome))
     → EndsAmong program n outcomes → IsRun (start_of program n) n C → ((r : ℕ) → lines_of r lines ≡ printed C r) → ArePrintedIn outcomes n lines
 masked program n outcomes C lines all run same =
     let found = IsAmong outcomes in
-    let end = ends_in (start_of program n) n found C (along (start_of program n) n found C all run) in
+    let end = ends_in (start_of program n) n found C (along Buffered (start_of program n) n found C all (buffered_run (start_of program n) n C run)) in
     record {
       outcome = end.outcome;
       found = end.is_found;
@@ -93,4 +96,5 @@ report_is_masked program n outcomes o all final =
     }
   where
     missing : (C : List Passed) × IsOutcomeOf (start_of program n) n C (seen_of o) → IsAmong outcomes (seen_of o)
-    missing possible = none_missing (start_of program n) n (IsAmong outcomes) possible.0 (seen_of o) all possible.1
+    missing possible = none_missing Buffered (start_of program n) n (IsAmong outcomes) possible.0 (seen_of o) all
+        (outcome_buffered (start_of program n) n possible.0 (seen_of o) possible.1)

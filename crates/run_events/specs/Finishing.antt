@@ -9,6 +9,7 @@ use Rattle.explore.specs.Exploring.{AlwaysEndsIn}
 use Rattle.explore.specs.Outcomes.{IsAmong}
 use Rattle.bare_world.specs.World.{WorldValue, size, start_of}
 use Rattle.bare_world.specs.ToTheEnd.{StaysWithin, CanEnd}
+use Rattle.explore.specs.declared.send_mode.SendMode.TheVariants.{Buffered}
 
 -- By events of which none is a crash the world comes to its end, and its run there is maximal and
 -- has one of these outcomes.
@@ -22,4 +23,4 @@ pub record CanFinish (outcomes : List (List RankOutcome)) (w : WorldValue) : Typ
 -- continuation of the world's run stays within the limits, the world can finish with one of them.
 abbrev pub FinishesAmong : List (List RankOutcome) → WorldValue → Type 0
 FinishesAmong outcomes w =
-    AlwaysEndsIn (start_of w) (size w) (IsAmong outcomes) [] → StaysWithin (start_of w) (size w) w.run → CanFinish outcomes w
+    AlwaysEndsIn Buffered (start_of w) (size w) (IsAmong outcomes) [] → StaysWithin (start_of w) (size w) w.run → CanFinish outcomes w

@@ -13,6 +13,7 @@ use Rattle.audit.specs.FinalRuns.Maximal.{RankOutcome}
 use Rattle.explore.specs.Exploring.{AlwaysEndsIn}
 use Rattle.explore.specs.Outcomes.{IsAmong}
 use Rattle.bare_world.specs.World.{WorldValue, size}
+use Rattle.explore.specs.declared.send_mode.SendMode.TheVariants.{Buffered}
 
 -- the values that a rank has printed, in order
 abbrev pub values_of : ℕ → List Line → List ℤ
@@ -32,7 +33,7 @@ pub record ArePrintedIn (outcomes : List (List RankOutcome)) (n : ℕ) (lines : 
 
 -- The program on n ranks comes to an end among these outcomes, however its ranks go on.
 abbrev pub EndsAmong : ProgramValue → ℕ → List (List RankOutcome) → Type 0
-EndsAmong program n outcomes = AlwaysEndsIn (start_of program n) n (IsAmong outcomes) []
+EndsAmong program n outcomes = AlwaysEndsIn Buffered (start_of program n) n (IsAmong outcomes) []
 
 -- Masking, in a world: whatever crashed, what was printed is part of an outcome that was found.
 abbrev pub MasksCrashes : List (List RankOutcome) → WorldValue → Type 0

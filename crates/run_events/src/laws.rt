@@ -6,6 +6,7 @@ ghost use Rattle.audit.specs.Outcome.{OutcomeValue};
 ghost use Rattle.audit.specs.FinalRuns.Final.{IsFinal, NoneIsUnfinished};
 ghost use Rattle.audit.specs.FinalRuns.Maximal.{RankOutcome};
 ghost use Rattle.explore.specs.Outcomes.{AreAll};
+ghost use Rattle.explore.specs.declared.send_mode.SendMode.TheVariants.{Buffered};
 ghost use Rattle.run_events.specs.Finishing.{FinishesAmong};
 ghost use Rattle.run_events.specs.Halting.{AllHalt, HaveHalted};
 ghost use Rattle.run_events.specs.Masking.{EndsAmong, IsMasked, MasksCrashes};
@@ -51,7 +52,7 @@ pub fn law_masks_reports()
 /// deadlock, and none faulted.
 #[tactic(auto, using(crate::proofs::Halting::all_halted))]
 pub fn law_all_halt()
-    ensures { (program : ProgramValue) (n : ℕ) (outcomes : List (List RankOutcome)) (o : OutcomeValue) → AreAll program n outcomes
+    ensures { (program : ProgramValue) (n : ℕ) (outcomes : List (List RankOutcome)) (o : OutcomeValue) → AreAll Buffered program n outcomes
         → AllHalt outcomes → IsFinal program n o → NoneIsUnfinished o.ends → HaveHalted o.ends }
 {}
 

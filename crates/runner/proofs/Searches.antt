@@ -13,7 +13,8 @@ use Rattle.explore.specs.Outcomes.{AreAll, AreDistinct, IsAmong}
 use Rattle.explore.specs.Small.{IsSmall}
 use Rattle.audit.specs.Outcome.{OutcomeValue}
 use Rattle.audit.specs.FinalRuns.Final.{IsFinal}
-use Rattle.audit.specs.FinalRuns.Maximal.{IsPossible, RankOutcome}
+use Rattle.audit.specs.FinalRuns.Maximal.{RankOutcome}
+use Rattle.explore.specs.Sending.{IsPossibleUnder}
 use Rattle.rank_language.specs.Program.{ProgramValue}
 use Rattle.runner.proofs.Crashes.{prints_only}
 use Rattle.run_events.specs.Masking.{EndsAmong, IsMasked}
@@ -33,18 +34,19 @@ use Rattle.synchronous.specs.Synchronous.{HasComputedTag, IsPastLimits, IsSynchr
 use Rattle.synchronous.specs.Telling.{IsTelling}
 use Rattle.synchronous.specs.declared.telling.Telling.{Telling}
 use Rattle.synchronous.specs.declared.telling.Telling.TheVariants as telling
+use Rattle.explore.specs.declared.send_mode.SendMode.TheVariants.{Buffered}
 
 -- what a search found within limits that are the job's, where crashes add no outcome to those of a complete one
 pub is_found_by : (program : ProgramValue) (job : ExploreJob) (found : ExploredValue) (runs steps : ℕ) → runs ≡ job.runs → steps ≡ job.steps
     → ((p : ProgramValue) (n : ℕ) (outcomes : List (List RankOutcome)) (o : OutcomeValue) → EndsAmong p n outcomes → IsFinal p n o
     → IsMasked outcomes n o)
-    → ((outcome : List RankOutcome) → IsAmong found.outcomes outcome → IsPossible program job.ranks outcome)
-    → (found.complete ≡ true → AreAll program job.ranks found.outcomes)
-    → AreLeftovers program job.ranks found.complete found.outcomes found.left
-    → (found.complete ≡ true → AlwaysEndsIn (start_of program job.ranks) job.ranks (IsAmong found.outcomes) [])
-    → (IsSmall program job.ranks runs steps → found.complete ≡ true)
+    → ((outcome : List RankOutcome) → IsAmong found.outcomes outcome → IsPossibleUnder Buffered program job.ranks outcome)
+    → (found.complete ≡ true → AreAll Buffered program job.ranks found.outcomes)
+    → AreLeftovers Buffered program job.ranks found.complete found.outcomes found.left
+    → (found.complete ≡ true → AlwaysEndsIn Buffered (start_of program job.ranks) job.ranks (IsAmong found.outcomes) [])
+    → (IsSmall Buffered program job.ranks runs steps → found.complete ≡ true)
     → (found.complete ≡ false → (found.runs ≡ runs) ⊎ IsTrue found.out_of_steps)
-    → (found.out_of_steps ≡ true → GoesBeyond program job.ranks steps) → AreDistinct found.outcomes → found.runs ≤ runs → found.closed ≡ false
+    → (found.out_of_steps ≡ true → GoesBeyond Buffered program job.ranks steps) → AreDistinct found.outcomes → found.runs ≤ runs → found.closed ≡ false
     → IsFoundBy program job found
 is_found_by program job found runs steps these those law possible complete left ends small stopped beyond distinct few_runs plain = record {
   possible = possible;
@@ -56,10 +58,10 @@ is_found_by program job found runs steps these those law possible complete left 
   ends = ends;
   masks = masks;
   only = λ all outcome is. prints_only program job.ranks found.outcomes outcome (masks all) is;
-  small = subst (λ (r : ℕ). IsSmall program job.ranks r job.steps → found.complete ≡ true) these
-      (subst (λ (s : ℕ). IsSmall program job.ranks runs s → found.complete ≡ true) those small);
+  small = subst (λ (r : ℕ). IsSmall Buffered program job.ranks r job.steps → found.complete ≡ true) these
+      (subst (λ (s : ℕ). IsSmall Buffered program job.ranks runs s → found.complete ≡ true) those small);
   stopped = λ is _. subst (λ (r : ℕ). (found.runs ≡ r) ⊎ IsTrue found.out_of_steps) these (stopped is);
-  beyond = subst (λ (s : ℕ). found.out_of_steps ≡ true → GoesBeyond program job.ranks s) those beyond;
+  beyond = subst (λ (s : ℕ). found.out_of_steps ≡ true → GoesBeyond Buffered program job.ranks s) those beyond;
   distinct = distinct;
   few_runs = subst (λ (r : ℕ). found.runs ≤ r) these few_runs;
 }
@@ -72,10 +74,10 @@ is_found_by program job found runs steps these those law possible complete left 
 
 -- what a search found that closes over states, where one that isn't complete was made before
 pub ends_found_by : (program : ProgramValue) (job : ExploreJob) (before found : ExploredValue) (runs steps : ℕ) → runs ≡ job.runs → steps ≡ job.steps
-    → before.complete ≡ false → (IsSmall program job.ranks runs steps → before.complete ≡ true)
-    → AreAll program job.ranks found.outcomes → AreLeftovers program job.ranks true found.outcomes found.left → MayGoOnForEver program job.ranks
+    → before.complete ≡ false → (IsSmall Buffered program job.ranks runs steps → before.complete ≡ true)
+    → AreAll Buffered program job.ranks found.outcomes → AreLeftovers Buffered program job.ranks true found.outcomes found.left → MayGoOnForEver Buffered program job.ranks
     → (found.closed ≡ true) × (found.complete ≡ false) → AreDistinct found.outcomes → found.runs ≤ runs
-    → (found.out_of_steps ≡ true → GoesBeyond program job.ranks steps) → IsFoundBy program job found
+    → (found.out_of_steps ≡ true → GoesBeyond Buffered program job.ranks steps) → IsFoundBy program job found
 ends_found_by program job before found runs steps these those stopped small all left endless closed distinct few_runs beyond = record {
   possible = all.possible;
   complete = λ _. all;
@@ -86,10 +88,10 @@ ends_found_by program job before found runs steps these those stopped small all 
   ends = λ is. absurd (no is);
   masks = λ is. absurd (no is);
   only = λ is. absurd (no is);
-  small = λ is. absurd (no_small (subst (λ (r : ℕ). IsSmall program job.ranks r steps) (sym these)
-      (subst (λ (s : ℕ). IsSmall program job.ranks job.runs s) (sym those) is)));
+  small = λ is. absurd (no_small (subst (λ (r : ℕ). IsSmall Buffered program job.ranks r steps) (sym these)
+      (subst (λ (s : ℕ). IsSmall Buffered program job.ranks job.runs s) (sym those) is)));
   stopped = λ _ not. (let e : true ≡ false = sym closed.0 ∙ not in absurd cc);
-  beyond = subst (λ (s : ℕ). found.out_of_steps ≡ true → GoesBeyond program job.ranks s) those beyond;
+  beyond = subst (λ (s : ℕ). found.out_of_steps ≡ true → GoesBeyond Buffered program job.ranks s) those beyond;
   distinct = distinct;
   few_runs = subst (λ (r : ℕ). found.runs ≤ r) these few_runs;
 }
@@ -97,7 +99,7 @@ ends_found_by program job before found runs steps these those stopped small all 
     no : found.complete ≡ true → ⊥
     no is = (let e : true ≡ false = sym is ∙ closed.1 in absurd cc)
 
-    no_small : IsSmall program job.ranks runs steps → ⊥
+    no_small : IsSmall Buffered program job.ranks runs steps → ⊥
     no_small is = (let e : true ≡ false = sym (small is) ∙ stopped in absurd cc)
 
 -- the text of what was found is printed where it is asked for

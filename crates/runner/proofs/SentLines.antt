@@ -11,6 +11,7 @@ use Rattle.run_shown.specs.Trace.Places.{AreFound}
 use Rattle.run_shown.specs.declared.trace.place.Place.{Place}
 use Rattle.runner.specs.SentLines.{AreLinedUpTo, AreListed, AreListedUpTo, AreSentAt, HaveLines, sent_at, sent_to, unlined, with_lines}
 use Rattle.runner.specs.declared.explored.lined.LinedLeftover.{LinedLeftover}
+use Rattle.explore.specs.declared.send_mode.SendMode.TheVariants.{Buffered}
 
 -- nothing was left
 pub none_sent : (program : ProgramValue) (n machines : ℕ) (lines : List ℕ) (run : List Passed) (left : List Leftover) (lined : List LinedLeftover)
@@ -43,7 +44,7 @@ unknown_lines program n lines outcome left lined is = HaveLines.unknown is
 
 -- one is
 pub known_lines : (program : ProgramValue) (n : ℕ) (lines : List ℕ) (outcome : List RankOutcome) (left : List Leftover) (run : List Passed)
-    (lined : List LinedLeftover) → IsEndingOf (start_of program n) n run (record { ranks = outcome; left = left })
+    (lined : List LinedLeftover) → IsEndingOf Buffered (start_of program n) n run (record { ranks = outcome; left = left })
     → AreSentAt program n lines run lined → HaveLines program n lines outcome left lined
 known_lines program n lines outcome left run lined ends sent = HaveLines.known run ends sent
 

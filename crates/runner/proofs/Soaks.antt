@@ -18,7 +18,8 @@ use Rattle.audit.specs.Outcome.{OutcomeValue}
 use Rattle.audit.specs.declared.outcome.End.{End}
 use Rattle.audit.specs.declared.outcome.End.TheVariants as end
 use Rattle.audit.specs.FinalRuns.Final.{IsFinal, NoneIsUnfinished, seen_from, seen_of}
-use Rattle.audit.specs.FinalRuns.Maximal.{IsPossible, RankOutcome}
+use Rattle.audit.specs.FinalRuns.Maximal.{RankOutcome}
+use Rattle.explore.specs.Sending.{IsPossibleUnder}
 use Rattle.rank_language.specs.Correct.{IsProgramOf}
 use Rattle.rank_language.specs.Program.{ProgramValue}
 use Rattle.rank_threads.specs.declared.report.Report.{Report}
@@ -30,6 +31,7 @@ use Rattle.rank_text.specs.declared.script.line.ScriptLine.{ScriptLine}
 use Rattle.outcomes.specs.Soak.Histogram.{AreOthers, BarValue, HasAt, Notes, again, first, first_bar, up_to, with_one}
 use Rattle.outcomes.specs.Soak.Lines.{CanBeUsed, images_in, kills_in}
 use Rattle.outcomes.specs.Soak.Text.{text_of}
+use Rattle.explore.specs.declared.send_mode.SendMode.TheVariants.{Buffered}
 
 -- at first no run was made
 pub of_none : (program : ProgramValue) (job : SoakJob) (soaked : Soaked) → soaked.histogram ≡ [] → soaked.crashes ≡ 0 → soaked.all_halted ≡ true
@@ -211,9 +213,9 @@ pub is_searched : (program : ProgramValue) (job : SoakJob) (soaked : Soaked) (fo
     → ((p : ProgramValue) (n : ℕ) (outcomes : List (List RankOutcome)) (o : OutcomeValue) → EndsAmong p n outcomes → IsFinal p n o
     → IsMasked outcomes n o)
     → AreSoaked program job job.runs soaked
-    → ((outcome : List RankOutcome) → IsAmong found.outcomes outcome → IsPossible program job.ranks outcome)
-    → (found.complete ≡ true → AreAll program job.ranks found.outcomes)
-    → (found.complete ≡ true → AlwaysEndsIn (start_of program job.ranks) job.ranks (IsAmong found.outcomes) [])
+    → ((outcome : List RankOutcome) → IsAmong found.outcomes outcome → IsPossibleUnder Buffered program job.ranks outcome)
+    → (found.complete ≡ true → AreAll Buffered program job.ranks found.outcomes)
+    → (found.complete ≡ true → AlwaysEndsIn Buffered (start_of program job.ranks) job.ranks (IsAmong found.outcomes) [])
     → AreDistinct found.outcomes → IsSearched program job.ranks soaked.histogram found
 is_searched program job soaked found law made possible complete ends distinct = record {
   possible = possible;

@@ -18,6 +18,7 @@ use Rattle.runner.specs.declared.explored.lined.LinedLeftover.{LinedLeftover}
 use Rattle.runner.specs.declared.explored.parting.Parted.{Parted}
 use Rattle.runner.specs.declared.explored.safety.Safety.{Safety}
 use Rattle.run_events.specs.Halting.{AllHalt}
+use Rattle.explore.specs.declared.send_mode.SendMode.TheVariants.{Buffered}
 
 -- in an empty text none is written
 pub none_written : (outcomes : List (List RankOutcome)) (choices : List (List Noted)) (left : List (List (List LinedLeftover))) (lines text : List ℕ)
@@ -72,7 +73,7 @@ is_summary synchronous found left marks cycle runs races shorts between text lis
 -- the outcomes, with their own marks, and behind them whether the program is safe
 pub is_marked : (synchronous : Bool) (lines : List ℕ) (program : ProgramValue) (ranks : ℕ) (found : ExploredValue) (told : Safety)
     (left : List (List (List LinedLeftover))) (marks : List (Option Bool)) (cycle : List ℕ) (runs : ℕ) (before text : List ℕ)
-    → AreLined program ranks lines found.outcomes found.left left → AreMarked program ranks found.outcomes found.choices marks
+    → AreLined program ranks lines found.outcomes found.left left → AreMarked Buffered program ranks found.outcomes found.choices marks
     → GoesOnAt program ranks cycle → IsExploredText synchronous found left marks cycle runs lines before → text ≡ before ++ safety_behind synchronous told
     → IsMarkedText synchronous lines program ranks found told runs text
 is_marked synchronous lines program ranks found told left marks cycle runs before text lined marked goes_on printed whole = record {
@@ -90,7 +91,7 @@ is_marked synchronous lines program ranks found told left marks cycle runs befor
 -- so they are as an object
 pub is_marked_object : (lines : List ℕ) (program : ProgramValue) (ranks : ℕ) (found : ExploredValue) (told : Safety)
     (left : List (List (List LinedLeftover))) (marks : List (Option Bool)) (text : List ℕ)
-    → AreLined program ranks lines found.outcomes found.left left → AreMarked program ranks found.outcomes found.choices marks
+    → AreLined program ranks lines found.outcomes found.left left → AreMarked Buffered program ranks found.outcomes found.choices marks
     → IsSearchObject found left marks lines told text → IsMarkedObject lines program ranks found told text
 is_marked_object lines program ranks found told left marks text lined marked written =
     record { marks = marks; marked = marked; left = left; lined = lined; written = written }
@@ -98,7 +99,7 @@ is_marked_object lines program ranks found told left marks text lined marked wri
 -- in short too
 pub is_marked_summary : (synchronous : Bool) (lines : List ℕ) (program : ProgramValue) (ranks : ℕ) (found : ExploredValue) (told : Safety)
     (left : List (List (List LinedLeftover))) (marks : List (Option Bool)) (cycle : List ℕ) (runs : ℕ) (before text : List ℕ)
-    → AreLined program ranks lines found.outcomes found.left left → AreMarked program ranks found.outcomes found.choices marks
+    → AreLined program ranks lines found.outcomes found.left left → AreMarked Buffered program ranks found.outcomes found.choices marks
     → GoesOnAt program ranks cycle → IsSummary synchronous found left marks cycle runs before → text ≡ before ++ safety_behind synchronous told
     → IsMarkedSummary synchronous lines program ranks found told runs text
 is_marked_summary synchronous lines program ranks found told left marks cycle runs before text lined marked goes_on printed whole = record {

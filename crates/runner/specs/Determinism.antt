@@ -6,7 +6,8 @@ use Rattle.std.specs.Fmt.{decimal}
 use Rattle.command_line.specs.declared.exploring.ExploreForm.{ExploreForm}
 use Rattle.command_line.specs.declared.exploring.ExploreForm.TheVariants as form
 use Rattle.command_line.specs.declared.exploring.ExploreJob.{ExploreJob}
-use Rattle.audit.specs.FinalRuns.Maximal.{IsPossible, RankOutcome}
+use Rattle.audit.specs.FinalRuns.Maximal.{RankOutcome}
+use Rattle.explore.specs.Sending.{IsPossibleUnder}
 use Rattle.explore.specs.Explored.{ExploredValue}
 use Rattle.explore.specs.Outcomes.{IsAmong}
 use Rattle.rank_language.specs.Program.{ProgramValue}
@@ -14,6 +15,7 @@ use Rattle.runner.specs.declared.commands.determinism.Determinism.{Determinism}
 use Rattle.runner.specs.declared.commands.determinism.Determinism.TheVariants as known
 use Rattle.synchronous.specs.declared.telling.Telling.{Telling}
 use Rattle.synchronous.specs.declared.telling.Telling.TheVariants as telling
+use Rattle.explore.specs.declared.send_mode.SendMode.TheVariants.{Buffered}
 
 -- what each rank printed
 abbrev pub printed : List RankOutcome → List (List ℤ)
@@ -37,14 +39,14 @@ pub record ArePartedAt (rank : ℕ) (outcomes : List (List RankOutcome)) : Type 
 
 -- each rank prints the same in all runs of the program
 abbrev pub IsSameInAll : ProgramValue → ℕ → Type 0
-IsSameInAll program n = (one other : List RankOutcome) → IsPossible program n one → IsPossible program n other → printed one ≡ printed other
+IsSameInAll program n = (one other : List RankOutcome) → IsPossibleUnder Buffered program n one → IsPossibleUnder Buffered program n other → printed one ≡ printed other
 
 -- this rank prints other lines in some run than in another
 pub record Differs (program : ProgramValue) (n rank : ℕ) : Type 0 where
   pub one : List RankOutcome
   pub other : List RankOutcome
-  pub one_possible : IsPossible program n one
-  pub other_possible : IsPossible program n other
+  pub one_possible : IsPossibleUnder Buffered program n one
+  pub other_possible : IsPossibleUnder Buffered program n other
   pub apart : PrintsOther rank one other
 
 -- What is known after a search of the telling program: each rank prints the same in all its runs, or

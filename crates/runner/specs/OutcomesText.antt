@@ -19,6 +19,7 @@ use Rattle.runner.specs.declared.explored.lined.LinedLeftover.{LinedLeftover}
 use Rattle.runner.specs.declared.explored.parting.Parted.{Parted}
 use Rattle.runner.specs.declared.explored.safety.Safety.{Safety}
 use Rattle.run_events.specs.Halting.{AllHalt}
+use Rattle.explore.specs.declared.send_mode.SendMode.TheVariants.{Buffered}
 
 -- the values that a rank printed, a line each
 abbrev pub values_text : ℕ → List ℤ → List ℕ
@@ -89,7 +90,7 @@ pub record IsSummary (synchronous : Bool) (found : ExploredValue) (left : List (
 
 -- If a state came back at some lines, the program may go on for ever.
 abbrev pub GoesOnAt : ProgramValue → ℕ → List ℕ → Type 0
-GoesOnAt program ranks cycle = cycle ≢ [] → MayGoOnForEver program ranks
+GoesOnAt program ranks cycle = cycle ≢ [] → MayGoOnForEver Buffered program ranks
 
 -- The outcomes of the program on so many ranks, whose statements stand on these lines, are printed
 -- with marks of their own and with the lines of what was never received, and behind them whether it is
@@ -97,7 +98,7 @@ GoesOnAt program ranks cycle = cycle ≢ [] → MayGoOnForEver program ranks
 pub record IsMarkedText (synchronous : Bool) (lines : List ℕ) (program : ProgramValue) (ranks : ℕ) (found : ExploredValue) (told : Safety) (runs : ℕ)
     (text : List ℕ) : Type 0 where
   pub marks : List (Option Bool)
-  pub marked : AreMarked program ranks found.outcomes found.choices marks
+  pub marked : AreMarked Buffered program ranks found.outcomes found.choices marks
   pub cycle : List ℕ
   pub goes_on : GoesOnAt program ranks cycle
   pub before : List ℕ
@@ -110,7 +111,7 @@ pub record IsMarkedText (synchronous : Bool) (lines : List ℕ) (program : Progr
 pub record IsMarkedSummary (synchronous : Bool) (lines : List ℕ) (program : ProgramValue) (ranks : ℕ) (found : ExploredValue) (told : Safety) (runs : ℕ)
     (text : List ℕ) : Type 0 where
   pub marks : List (Option Bool)
-  pub marked : AreMarked program ranks found.outcomes found.choices marks
+  pub marked : AreMarked Buffered program ranks found.outcomes found.choices marks
   pub cycle : List ℕ
   pub goes_on : GoesOnAt program ranks cycle
   pub before : List ℕ
@@ -124,7 +125,7 @@ pub record IsMarkedSummary (synchronous : Bool) (lines : List ℕ) (program : Pr
 -- the races.
 pub record IsMarkedObject (lines : List ℕ) (program : ProgramValue) (ranks : ℕ) (found : ExploredValue) (told : Safety) (text : List ℕ) : Type 0 where
   pub marks : List (Option Bool)
-  pub marked : AreMarked program ranks found.outcomes found.choices marks
+  pub marked : AreMarked Buffered program ranks found.outcomes found.choices marks
   pub left : List (List (List LinedLeftover))
   pub lined : AreLined program ranks lines found.outcomes found.left left
   pub written : IsSearchObject found left marks lines told text

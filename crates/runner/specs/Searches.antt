@@ -9,7 +9,8 @@ use Rattle.explore.specs.Endings.{AreLeftovers}
 use Rattle.explore.specs.Explored.{ExploredValue}
 use Rattle.explore.specs.Outcomes.{AreAll, AreDistinct, IsAmong}
 use Rattle.explore.specs.Small.{IsSmall}
-use Rattle.audit.specs.FinalRuns.Maximal.{IsPossible, RankOutcome}
+use Rattle.audit.specs.FinalRuns.Maximal.{RankOutcome}
+use Rattle.explore.specs.Sending.{IsPossibleUnder}
 use Rattle.rank_language.specs.Program.{ProgramValue}
 use Rattle.run_events.specs.Masking.{EndsAmong}
 use Rattle.runner.specs.Crashes.{AreMasked, PrintsOnly}
@@ -30,6 +31,7 @@ use Rattle.synchronous.specs.Synchronous.{HasComputedTag, IsPastLimits, IsSynchr
 use Rattle.synchronous.specs.Telling.{IsTelling, IsUntellable}
 use Rattle.synchronous.specs.declared.telling.Telling.{Telling}
 use Rattle.synchronous.specs.declared.telling.Telling.TheVariants as telling
+use Rattle.explore.specs.declared.send_mode.SendMode.TheVariants.{Buffered}
 
 -- What a search found: the program may have each outcome, and what is listed of it was never received
 -- in some run that has it; if the search is complete, in no such run something else was left. If the search is complete, it has no
@@ -40,18 +42,18 @@ use Rattle.synchronous.specs.declared.telling.Telling.TheVariants as telling
 -- steps, and then some rank goes beyond it. No outcome stands there twice, and no more
 -- runs were looked at than the job allows.
 pub record IsFoundBy (program : ProgramValue) (job : ExploreJob) (found : ExploredValue) : Type 0 where
-  pub possible : (outcome : List RankOutcome) → IsAmong found.outcomes outcome → IsPossible program job.ranks outcome
-  pub complete : found.complete ≡ true → AreAll program job.ranks found.outcomes
-  pub closed : found.closed ≡ true → AreAll program job.ranks found.outcomes
-  pub left : AreLeftovers program job.ranks found.complete found.outcomes found.left
-  pub all_left : found.closed ≡ true → AreLeftovers program job.ranks true found.outcomes found.left
-  pub endless : found.closed ≡ true → MayGoOnForEver program job.ranks
+  pub possible : (outcome : List RankOutcome) → IsAmong found.outcomes outcome → IsPossibleUnder Buffered program job.ranks outcome
+  pub complete : found.complete ≡ true → AreAll Buffered program job.ranks found.outcomes
+  pub closed : found.closed ≡ true → AreAll Buffered program job.ranks found.outcomes
+  pub left : AreLeftovers Buffered program job.ranks found.complete found.outcomes found.left
+  pub all_left : found.closed ≡ true → AreLeftovers Buffered program job.ranks true found.outcomes found.left
+  pub endless : found.closed ≡ true → MayGoOnForEver Buffered program job.ranks
   pub ends : found.complete ≡ true → EndsAmong program job.ranks found.outcomes
   pub masks : found.complete ≡ true → AreMasked program job.ranks found.outcomes
   pub only : found.complete ≡ true → (outcome : List RankOutcome) → found.outcomes ≡ outcome ∷ [] → PrintsOnly program job.ranks outcome
-  pub small : IsSmall program job.ranks job.runs job.steps → found.complete ≡ true
+  pub small : IsSmall Buffered program job.ranks job.runs job.steps → found.complete ≡ true
   pub stopped : found.complete ≡ false → found.closed ≡ false → (found.runs ≡ job.runs) ⊎ IsTrue found.out_of_steps
-  pub beyond : found.out_of_steps ≡ true → GoesBeyond program job.ranks job.steps
+  pub beyond : found.out_of_steps ≡ true → GoesBeyond Buffered program job.ranks job.steps
   pub distinct : AreDistinct found.outcomes
   pub few_runs : found.runs ≤ job.runs
 

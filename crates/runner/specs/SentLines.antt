@@ -14,6 +14,7 @@ use Rattle.rank_machine.specs.Acts.{Act, sends, takes, hits, misses, prints}
 use Rattle.run_shown.specs.Trace.Places.{AreFound}
 use Rattle.run_shown.specs.declared.trace.place.Place.{Place}
 use Rattle.runner.specs.declared.explored.lined.LinedLeftover.{LinedLeftover}
+use Rattle.explore.specs.declared.send_mode.SendMode.TheVariants.{Buffered}
 
 -- the sends of one rank to another, each with the position of its statement, and None for each whose
 -- message was taken
@@ -107,7 +108,7 @@ pub data AreSentAt (program : ProgramValue) (n : ℕ) (lines : List ℕ) (run : 
 pub data HaveLines (program : ProgramValue) (n : ℕ) (lines : List ℕ) (outcome : List RankOutcome) (left : List Leftover) (lined : List LinedLeftover)
     : Type 0 where
   unknown : lined ≡ unlined left → HaveLines program n lines outcome left lined
-  known : (run : List Passed) → IsEndingOf (start_of program n) n run (record { ranks = outcome; left = left })
+  known : (run : List Passed) → IsEndingOf Buffered (start_of program n) n run (record { ranks = outcome; left = left })
       → AreSentAt program n lines run lined → HaveLines program n lines outcome left lined
 
 -- so it is of each of the first so many of these lists, which are those of an outcome

@@ -10,7 +10,8 @@ use Rattle.runner.specs.Reports.{IsReportUnder}
 use Rattle.run_events.specs.Halting.{HaveHalted}
 use Rattle.audit.specs.declared.outcome.End.TheVariants as end
 use Rattle.audit.specs.FinalRuns.Final.{seen_of}
-use Rattle.audit.specs.FinalRuns.Maximal.{IsPossible, RankOutcome}
+use Rattle.audit.specs.FinalRuns.Maximal.{RankOutcome}
+use Rattle.explore.specs.Sending.{IsPossibleUnder}
 use Rattle.rank_language.specs.Program.{ProgramValue}
 use Rattle.rank_threads.specs.declared.report.Report.{Report}
 use Rattle.runner.specs.SoakText.{IsSoakText, failed_text}
@@ -20,6 +21,7 @@ use Rattle.rank_text.specs.declared.script.line.ScriptLine.{ScriptLine}
 use Rattle.outcomes.specs.Soak.Histogram.{BarValue, Notes, up_to}
 use Rattle.outcomes.specs.Soak.Lines.{CanBeUsed, images_in, kills_in}
 use Rattle.outcomes.specs.Soak.Text.{text_of}
+use Rattle.explore.specs.declared.send_mode.SendMode.TheVariants.{Buffered}
 
 -- no run was made: none counts, no rank crashed, and none is left that didn't halt
 pub record IsOfNone (soaked : Soaked) : Type 0 where
@@ -83,8 +85,8 @@ IsFinished outcome = (r : ℕ) (seen : RankOutcome) → slice_get outcome r ≡ 
 -- complete, it has no other. Then each outcome that runs had is one of these, unless a rank is
 -- unfinished in it: none is foreign to the search.
 pub record IsSearched (program : ProgramValue) (ranks : ℕ) (bars : List BarValue) (found : ExploredValue) : Type 0 where
-  pub possible : (outcome : List RankOutcome) → IsAmong found.outcomes outcome → IsPossible program ranks outcome
-  pub complete : found.complete ≡ true → AreAll program ranks found.outcomes
+  pub possible : (outcome : List RankOutcome) → IsAmong found.outcomes outcome → IsPossibleUnder Buffered program ranks outcome
+  pub complete : found.complete ≡ true → AreAll Buffered program ranks found.outcomes
   pub distinct : AreDistinct found.outcomes
   pub none_foreign : found.complete ≡ true → (at : ℕ) (bar : BarValue) → slice_get bars at ≡ Some bar
       → IsFinished bar.outcome → IsAmong found.outcomes bar.outcome

@@ -2,7 +2,8 @@
 -- never received, in a run of the acknowledged program (docs/MPI.md, "Safe programs").
 use Rattle.std.specs.Prelude.{◌≡◌, ℕ, Bool, true, false, not, ◌==◌, ◌&&◌, ◌||◌, if◌then◌else◌, List, [], ◌∷◌, Option, Some, None, length, slice_get}
 use Rattle.std.specs.List.{list_all, list_any}
-use Rattle.audit.specs.FinalRuns.Maximal.{IsOutcomeOf, RankOutcome}
+use Rattle.audit.specs.FinalRuns.Maximal.{RankOutcome}
+use Rattle.explore.specs.Sending.{IsOutcomeUnder}
 use Rattle.crash_free.specs.Leftovers.{join_below, left_in}
 use Rattle.crash_free.specs.Sim.{SimValue, start_of}
 use Rattle.crash_free.specs.declared.leftover.Leftover.{Leftover}
@@ -15,6 +16,7 @@ use Rattle.rank_language.specs.Program.{ProgramValue}
 use Rattle.rank_machine.specs.Machine.{MachineValue}
 use Rattle.runner.specs.declared.explored.safety.WaitingRank.{WaitingRank}
 use Rattle.runner.specs.declared.explored.safety.WaitingRanks.{WaitingRanks}
+use Rattle.explore.specs.declared.send_mode.SendMode.TheVariants.{Buffered}
 
 -- the message is of a send, not of a collective
 abbrev pub is_tag : MessageMark → Bool
@@ -57,7 +59,7 @@ pub record AreWaits (lines : List ℕ) (s : SimValue) (waits : WaitingRanks) : T
 pub record WaitWith (program : ProgramValue) (n : ℕ) (lines : List ℕ) (outcome : List RankOutcome) (waits : WaitingRanks) : Type 0 where
   pub run : SimValue
   pub made : IsSimOf program n run
-  pub ended : IsOutcomeOf (start_of program n) n run.run outcome
+  pub ended : IsOutcomeUnder Buffered (start_of program n) n run.run outcome
   pub wait : AreWaits lines run waits
 
 -- so they do in some run that has one of these outcomes

@@ -34,10 +34,6 @@ pub record StandsStill (s : SimValue) (r : ℕ) : Type 0 where
   pub asks : Wants machine want
   pub nothing : HasNothing s r want
 
--- so does each rank
-abbrev pub AllStill : SimValue → Type 0
-AllStill s = (r : ℕ) → r < length s.machines → StandsStill s r
-
 -- what is seen of rank r, which wants this last
 pub record EndsAt (s : SimValue) (r : ℕ) (x : RankOutcome) : Type 0 where
   pub lines : x.lines ≡ map (λ (line : ℕ × ℤ). line.1) (printed s.run r)

@@ -1,8 +1,7 @@
 //! The outcome of a run in which no rank can go on.
 ghost use Rattle.std.specs.Prelude.{◌≡◌, ◌≢◌, ◌<◌, true, false, Some, IfOk, IsSome, length};
-ghost use Rattle.crash_free.specs.Sim.{Simulates, start_of};
-ghost use Rattle.audit.specs.FinalRuns.Maximal.{IsOutcomeOf, end_of};
-ghost use Rattle.audit.specs.FinalRuns.Stills.{AllStill, StandsStill, EndsAt};
+ghost use Rattle.audit.specs.FinalRuns.Maximal.{end_of};
+ghost use Rattle.audit.specs.FinalRuns.Stills.{StandsStill, EndsAt};
 
 use crate::End;
 use crash_free::Sim;
@@ -53,23 +52,8 @@ fn has_end(end: End, other: End) -> bool
     end == other
 }
 
-/// The outcome of a run, rank by rank. An `Err` means out of memory.
-pub fn outcome_of(alloc: Heap, sim: &Sim<'_>) -> Result<Vec<RankEnd, Heap>, AllocError>
-    requires stands { Simulates sim.now }
-    requires still { AllStill sim.now }
-    ensures { IfOk result (λ ends. IsOutcomeOf (start_of sim.now.program (length sim.now.machines)) (length sim.now.machines) sim.now.run ends.items) }
-{
-    let ranks = sim.ranks();
-    let mut ends = Vec::new(alloc);
-    let mut rank = 0;
-    while rank < ranks {
-        ends.push(rank_end(alloc, sim, rank)?)?;
-        rank += 1;
-    }
-    Ok(ends)
-}
-
-fn rank_end(alloc: Heap, sim: &Sim<'_>, rank: u8) -> Result<RankEnd, AllocError>
+/// What is seen of a rank that can't go on. An `Err` means out of memory.
+pub fn rank_end(alloc: Heap, sim: &Sim<'_>, rank: u8) -> Result<RankEnd, AllocError>
     requires rank { rank < length sim.now.machines }
     requires still { StandsStill sim.now rank }
     ensures { IfOk result (λ ended. EndsAt sim.now rank ended) }

@@ -2,8 +2,10 @@
 ghost use Rattle.std.specs.Prelude.{◌≡◌, true, IfOk, Ok, OnOk, length};
 ghost use Rattle.crash_free.specs.LiveVariables.Live.{IsTableOf};
 ghost use Rattle.explore.specs.Cycles.{MayGoOnForEver, StandsIn, WentOnFrom};
+ghost use Rattle.explore.specs.Sending.{HasRunUnder};
 
 use crate::cycle::Cycle;
+use crate::send_mode::SendMode;
 use crash_free::live_variables::Live;
 use crash_free::{Sim, Standing};
 use limits::Heap;
@@ -44,10 +46,11 @@ impl CycleMark {
     }
 
     /// Whether the simulation stands there again, after more acts. An `Err` means out of memory.
-    pub fn is_met(&mut self, sim: &Sim<'_>, live: &Live) -> Result<bool, AllocError>
+    pub fn is_met(&mut self, mode: SendMode, sim: &Sim<'_>, live: &Live) -> Result<bool, AllocError>
         requires table { IsTableOf sim.now.program live.now }
+        requires is_run { HasRunUnder mode sim.now }
         requires from { WentOnFrom sim.now self.old.standing self.old.made }
-        ensures yes { result ≡ Ok true → MayGoOnForEver sim.now.program (length sim.now.machines) }
+        ensures yes { result ≡ Ok true → MayGoOnForEver mode sim.now.program (length sim.now.machines) }
         ensures standing { self.new.standing ≡ self.old.standing }
         ensures made { self.new.made ≡ self.old.made }
     {

@@ -5,6 +5,7 @@ ghost use Rattle.explore.specs.Shown.{AreMarked};
 ghost use Rattle.runner.specs.OutcomesText.{GoesOnAt, IsMarkedObject, IsMarkedSummary, IsMarkedText};
 ghost use Rattle.runner.specs.Reasons.{HasNoOutcome, HasNoOutcomeOf, IsSearchRefusal, IsUnsearched, UnlessMemory};
 ghost use Rattle.runner.specs.Searches.{HasSearchStatus, IsExploreAnswer, IsFoundBy, IsPrinted, IsSearchAnswer, IsSearchedOf};
+ghost use Rattle.explore.specs.declared.send_mode.SendMode.TheVariants.{Buffered};
 
 use crate::commands::determinism::print_determinism;
 use crate::commands::lining::lined_of;
@@ -18,7 +19,8 @@ use crate::explored::{
 use crate::files::Files;
 use command_line::{ExploreForm, ExploreJob};
 use explore::{
-    Explored, FoundOutcome, Limits, Watch, came_back, explore, explore_ends, marks_of, run_of,
+    Explored, FoundOutcome, Limits, SendMode, Watch, came_back, explore, explore_ends, marks_of,
+    run_of,
 };
 use limits::Heap;
 use rank_language::{LinedProgram, ParseFault, Program};
@@ -113,11 +115,11 @@ pub fn search<W: Watch>(
     ensures { IfOk result (λ found. IsFoundBy program.now job.entry found) }
 {
     law_masks_reports();
-    let found = explore(alloc, program, job.ranks, limits_of(job), watch)?;
+    let found = explore(alloc, SendMode::Buffered, program, job.ranks, limits_of(job), watch)?;
     if found.complete {
         return Ok(found);
     }
-    match explore_ends(alloc, program, job.ranks, limits_of(job), watch)? {
+    match explore_ends(alloc, SendMode::Buffered, program, job.ranks, limits_of(job), watch)? {
         Some(closed) => Ok(closed),
         None => Ok(found),
     }
@@ -246,7 +248,7 @@ fn cycle_in(
     if found.complete {
         return Ok(Vec::new(alloc));
     }
-    match came_back(alloc, program, job.ranks, limits_of(job))? {
+    match came_back(alloc, SendMode::Buffered, program, job.ranks, limits_of(job))? {
         Some(cycle) => lines_at(alloc, cycle.positions.as_slice(), lines),
         None => Ok(Vec::new(alloc)),
     }
@@ -283,10 +285,11 @@ fn marks_in(
     program: &Program,
     found: &Explored,
 ) -> Result<Vec<Option<bool>, Heap>, AllocError>
-    ensures { IfOk result (λ marks. AreMarked program.now job.entry.ranks found.now.outcomes found.now.choices marks.items) }
+    ensures { IfOk result (λ marks. AreMarked Buffered program.now job.entry.ranks found.now.outcomes found.now.choices marks.items) }
 {
     marks_of(
         alloc,
+        SendMode::Buffered,
         program,
         job.ranks,
         limits_of(job),
@@ -309,7 +312,7 @@ fn events_of<'a>(
     let Some(outcome) = outcome_at(found, number) else {
         return Err(Refusal::NoOutcome(number));
     };
-    match run_of(alloc, program, job.ranks, limits_of(job), outcome) {
+    match run_of(alloc, SendMode::Buffered, program, job.ranks, limits_of(job), outcome) {
         Ok(Some(run)) => match play_text(alloc, program, job.ranks, &run) {
             Ok(text) => Ok(text),
             Err(fault) => Err(Refusal::from(fault)),

@@ -6,7 +6,7 @@ use crate::commands::exploring::limits_of;
 use crate::commands::sent_lines::{lined_left, unlined};
 use crate::explored::{LinedLeftovers, LinedOutcome, outcome_at};
 use command_line::ExploreJob;
-use explore::{Explored, FoundOutcome, Leftovers, run_leaving};
+use explore::{Explored, FoundOutcome, Leftovers, SendMode, run_leaving};
 use limits::Heap;
 use rank_language::Program;
 use std::alloc::AllocError;
@@ -71,7 +71,7 @@ fn lined_leftovers(
     if left.messages.is_empty() {
         return Ok(unlined(alloc, left.messages.as_slice())?);
     }
-    match run_leaving(alloc, program, job.ranks, limits_of(job), outcome, left)? {
+    match run_leaving(alloc, SendMode::Buffered, program, job.ranks, limits_of(job), outcome, left)? {
         Some(run) => Ok(lined_left(alloc, program, job.ranks, lines, &run)?),
         None => Ok(unlined(alloc, left.messages.as_slice())?),
     }

@@ -13,7 +13,7 @@ use crate::files::Files;
 use crate::soaked::{Soaked, print_soaked};
 use command_line::{SoakJob, SoakScriptJob};
 use crash_free::Sim;
-use explore::{Explored, Limits, Watch, explore};
+use explore::{Explored, Limits, SendMode, Watch, explore};
 use limits::Heap;
 use outcomes::soak::{Most, draw, text_of};
 use rank_language::Program;
@@ -120,7 +120,7 @@ fn searched<W: Watch>(
     ensures { IfOk result (λ found. IsSearched program.now job.entry.ranks _soaked.now.histogram found) }
 {
     law_masks_reports();
-    explore(alloc, program, job.ranks, SEARCH, watch)
+    explore(alloc, SendMode::Buffered, program, job.ranks, SEARCH, watch)
 }
 
 // The runs, from number 1 on.

@@ -8,7 +8,7 @@ use crate::commands::exploring::limits_of;
 use crate::explored::{WaitingRank, WaitingRanks};
 use command_line::ExploreJob;
 use crash_free::{Leftover, MessageMark, Sim};
-use explore::{Explored, FoundOutcome, Leftovers, run_of};
+use explore::{Explored, FoundOutcome, Leftovers, SendMode, run_of};
 use limits::Heap;
 use rank_language::LinedProgram;
 use std::alloc::AllocError;
@@ -62,7 +62,7 @@ pub fn waits_in(
 ) -> Result<WaitingRanks, AllocError>
     ensures { IfOk result (λ waits. WaitWith searched.now.program job.entry.ranks searched.now.lines.items outcome.now.ranks waits ⊎ IsEmpty waits) }
 {
-    match run_of(alloc, &searched.program, job.ranks, limits_of(job), outcome)? {
+    match run_of(alloc, SendMode::Buffered, &searched.program, job.ranks, limits_of(job), outcome)? {
         Some(run) => waits_after(alloc, &run, searched.lines.as_slice()),
         None => Ok(WaitingRanks {
             ranks: Vec::new(alloc),

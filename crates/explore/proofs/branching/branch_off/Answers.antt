@@ -19,7 +19,7 @@ loop-at-init c = record {
   within = omega arith;
   some = c.requires.some;
   branches =
-      branches_none c.args.path.now.sim c.args.moves.now (length c.args.moves.now) (stems_of c.args.path.now.sim.run c.args.pending.now.items) refl;
+      branches_none c.args.mode c.args.path.now.sim c.args.moves.now (length c.args.moves.now) (stems_of c.args.path.now.sim.run c.args.pending.now.items) refl;
   off = c.requires.off;
 }
 
@@ -33,28 +33,28 @@ loop-at-preserved c =
     let b : Branch = record { shared = length c.acts-shared.result.now; chosen = Some m; choices = c.len-choices.result } in
     let all : length c.acts-shared.result.now ≡ length s.run = ap length c.acts-shared.ensures ∙ length-reverse s.run in
     let more =
-    branches_more s c.args.moves.now (c.loop-at.at - 1) m (stems_of s.run c.args.pending.now.items) (stems_of s.run c.loop-at.pending.items)
+    branches_more c.args.mode s c.args.moves.now (c.loop-at.at - 1) m (stems_of s.run c.args.pending.now.items) (stems_of s.run c.loop-at.pending.items)
     (slice_get-get_or c.args.moves.now (c.loop-at.at - 1) (move_of 0 Next) low)
-    (subst (λ k. BranchesOff s c.args.moves.now k (stems_of s.run c.args.pending.now.items) (stems_of s.run c.loop-at.pending.items)) back
+    (subst (λ k. BranchesOff c.args.mode s c.args.moves.now k (stems_of s.run c.args.pending.now.items) (stems_of s.run c.loop-at.pending.items)) back
     c.loop-at.invariant.branches) in
     let one : stem_of s.run b ≡ stem_with s m = stem_here s.run b all in
     let new : stems_of s.run (c.loop-at.pending.items ++ b ∷ []) ≡ stems_of s.run c.loop-at.pending.items ++ stem_with s m ∷ [] =
     stems_push s.run c.loop-at.pending.items b ∙ ap (λ (z : Stem). stems_of s.run c.loop-at.pending.items ++ z ∷ []) one in
     let may = (c.requires.acts m (among_index c.args.moves.now (c.loop-at.at - 1) (move_of 0 Next) low)).2 in
-    let run : (P : List Passed) × IsAfter s.program (length s.machines) s.run (Some m) P =
+    let run : (P : List Passed) × IsAfter c.args.mode s.program (length s.machines) s.run (Some m) P =
     (and_then s.run m.rank may.0, (may.0, (may.1, may.2), refl)) in
     record {
       within = within;
       some = omega (arith, c.loop-at-test.true);
       branches =
           rw c.in_ok-push.ensures.items
-          (subst (λ (z : List Stem). BranchesOff s c.args.moves.now (c.loop-at.at - 1) (stems_of s.run c.args.pending.now.items) z) (sym new) more);
+          (subst (λ (z : List Stem). BranchesOff c.args.mode s c.args.moves.now (c.loop-at.at - 1) (stems_of s.run c.args.pending.now.items) z) (sym new) more);
       off =
           rw c.in_ok-push.ensures.items
-          (off_push s.program (length s.machines) s.run c.loop-at.pending.items b all run c.loop-at.invariant.off);
+          (off_push c.args.mode s.program (length s.machines) s.run c.loop-at.pending.items b all run c.loop-at.invariant.off);
     }
 
 pub returns-clause-branches : goal.returns-clause-branches
 returns-clause-branches c =
-    branches_from c.args.path.now.sim c.args.moves.now c.loop-at.at (stems_of c.args.path.now.sim.run c.args.pending.now.items)
+    branches_from c.args.mode c.args.path.now.sim c.args.moves.now c.loop-at.at (stems_of c.args.path.now.sim.run c.args.pending.now.items)
     (stems_of c.args.path.now.sim.run c.loop-at.pending.items) c.loop-at.invariant.some c.loop-at-test.false c.loop-at.invariant.branches

@@ -7,6 +7,6 @@ loop-rank-preserved c =
     let old = c.loop-rank.invariant in
     let on = c.in_ok-go_further.ensures in
     record {
-      further = further_on c.args.path.now.sim c.loop-rank.path.sim c.go_further.new.path.sim old.further on;
+      further = further_on c.args.mode c.args.path.now.sim c.loop-rank.path.sim c.go_further.new.path.sim old.further on;
       ranks = on.ranks ∙ old.ranks;
     }

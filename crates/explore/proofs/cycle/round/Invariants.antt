@@ -5,7 +5,7 @@ use Rattle.explore.proofs.cycle.round.Given as goal
 -- the ranks went further
 abbrev pub invariant-loop-rank : goal.invariant-loop-rank
 invariant-loop-rank l = record {
-  further : GoesFurther l.fn.path.sim l.path.sim;
+  further : GoesFurther l.mode l.fn.path.sim l.path.sim;
   ranks : length l.path.sim.machines ≡ l.ranks;
 }
 

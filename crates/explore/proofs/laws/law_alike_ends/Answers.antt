@@ -6,7 +6,7 @@ pub returns-clause-outcomes : goal.returns-clause-outcomes
 returns-clause-outcomes c = ends_so_too
 
 pub returns-clause-ends : goal.returns-clause-ends
-returns-clause-ends c = λ start n found. always_ends_too start n (IsAmong found)
+returns-clause-ends c = λ mode start n found. always_ends_too mode start n (IsAmong found)
 
 pub returns-clause-searched : goal.returns-clause-searched
-returns-clause-searched c = λ start n found. explored_too start n (IsAmong found)
+returns-clause-searched c = λ mode start n found. explored_too mode start n (IsAmong found)

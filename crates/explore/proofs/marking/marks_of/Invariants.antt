@@ -11,5 +11,5 @@ abbrev pub invariant-loop-at : goal.invariant-loop-at
 invariant-loop-at l = record {
   as_many : length l.marks.items ≡ l.at;
   each : (i : ℕ) (o : List RankOutcome) (cs : List Noted) (mark : Option Bool) → slice_get (rank_outcomes l.outcomes) i ≡ Some o
-      → slice_get (noted_choices l.outcomes) i ≡ Some cs → slice_get l.marks.items i ≡ Some mark → IfSome mark (IsMark l.program l.ranks o cs);
+      → slice_get (noted_choices l.outcomes) i ≡ Some cs → slice_get l.marks.items i ≡ Some mark → IfSome mark (IsMark l.mode l.program l.ranks o cs);
 }

@@ -6,7 +6,7 @@ use Rattle.explore.proofs.steps.advance.Given as goal
 -- what is made so far leads on, and is counted
 abbrev pub invariant-loop : goal.invariant-loop
 invariant-loop l =
-    LeadsTo l.initial.sim l.sim × (sum l.left ≤ sum l.initial.left) × KeepsCount l.initial.sim l.initial.left l.sim l.left
+    LeadsTo l.mode l.initial.sim l.sim × (sum l.left ≤ sum l.initial.left) × KeepsCount l.initial.sim l.initial.left l.sim l.left
 
 abbrev pub decreases-loop : goal.decreases-loop
 decreases-loop l = sum l.left

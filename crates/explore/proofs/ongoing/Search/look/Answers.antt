@@ -9,11 +9,11 @@ use Rattle.explore.proofs.TakenUp.{beyond_back}
 use Rattle.explore.proofs.ongoing.Search.look.Goals as goal
 
 pub take_up-requires-clause-within : goal.take_up-requires-clause-within
-take_up-requires-clause-within c = last_within c.args.self.now.path.sim.program (length c.args.self.now.path.sim.machines)
+take_up-requires-clause-within c = last_within c.args.mode c.args.self.now.path.sim.program (length c.args.self.now.path.sim.machines)
     c.args.self.now.path.sim.run c.args.self.now.pending.items c.args.branch c.requires.on.off
 
 pub take_up-requires-clause-some_run : goal.take_up-requires-clause-some_run
-take_up-requires-clause-some_run c = last_run c.args.self.now.path.sim.program (length c.args.self.now.path.sim.machines)
+take_up-requires-clause-some_run c = last_run c.args.mode c.args.self.now.path.sim.program (length c.args.self.now.path.sim.machines)
     c.args.self.now.path.sim.run c.args.self.now.pending.items c.args.branch c.requires.on.off
 
 pub play-requires-clause-few : goal.play-requires-clause-few
@@ -31,32 +31,32 @@ play-requires-clause-counts c =
 
 pub play-requires-clause-off : goal.play-requires-clause-off
 play-requires-clause-off c =
-    off_now c.args.self.now.path.sim c.take_up.new.path.sim c.args.self.now.pending.items c.args.branch c.args.self.now.found c.args.self.now.met
+    off_now c.args.mode c.args.self.now.path.sim c.take_up.new.path.sim c.args.self.now.pending.items c.args.branch c.args.self.now.found c.args.self.now.met
     c.args.self.now.out_of_steps c.requires.on
-    c.in_ok-take_up.ensures.alike c.in_ok-take_up.ensures.shares c.in_ok-take_up.ensures.long
+    c.in_ok-take_up.ensures.alike c.in_ok-take_up.ensures.shares c.in_ok-take_up.ensures.long c.in_ok-take_up.ensures.is_run
 
 pub returns-then-not-branch-clause-on : goal.returns-then-not-branch-clause-on
 returns-then-not-branch-clause-on c =
-    on_cut c.args.self.now.path.sim c.take_up.new.path.sim c.args.self.now.pending.items c.args.branch c.args.self.now.found c.args.self.now.met
+    on_cut c.args.mode c.args.self.now.path.sim c.take_up.new.path.sim c.args.self.now.pending.items c.args.branch c.args.self.now.found c.args.self.now.met
     c.args.self.now.out_of_steps c.requires.on
-    c.in_ok-take_up.ensures.alike c.in_ok-take_up.ensures.shares c.in_ok-take_up.ensures.long
+    c.in_ok-take_up.ensures.alike c.in_ok-take_up.ensures.shares c.in_ok-take_up.ensures.long c.in_ok-take_up.ensures.is_run
 
 pub returns-then-not-branch-clause-enough : goal.returns-then-not-branch-clause-enough
 returns-then-not-branch-clause-enough c =
-    fewer_cut c.args.self.now.path.sim c.take_up.new.path.sim c.args.self.now.pending.items c.args.branch c.args.self.now.found c.args.self.now.met
+    fewer_cut c.args.mode c.args.self.now.path.sim c.take_up.new.path.sim c.args.self.now.pending.items c.args.branch c.args.self.now.found c.args.self.now.met
     c.args.self.now.out_of_steps c.requires.on
-    c.in_ok-take_up.ensures.alike c.in_ok-take_up.ensures.shares c.in_ok-take_up.ensures.long
+    c.in_ok-take_up.ensures.alike c.in_ok-take_up.ensures.shares c.in_ok-take_up.ensures.long c.in_ok-take_up.ensures.is_run
 
 pub returns-in_ok-note-in-Still-clause-on : goal.returns-in_ok-note-in-Still-clause-on
 returns-in_ok-note-in-Still-clause-on c =
     let yes : c.take_up.result ≡ Ok true = (let one = c.in_ok-take_up.was in let two = c.if-not-branch.false in cc) in
-    on_looked c.args.self.now.path.sim c.take_up.new.path.sim c.args.self.now.pending.items c.args.branch c.args.self.now.found c.args.self.now.met
+    on_looked c.args.mode c.args.self.now.path.sim c.take_up.new.path.sim c.args.self.now.pending.items c.args.branch c.args.self.now.found c.args.self.now.met
     c.args.self.now.out_of_steps c.requires.on
-    c.in_ok-take_up.ensures.alike c.in_ok-take_up.ensures.shares c.in_ok-take_up.ensures.long (c.take_up.ensures.only yes) c.play.new.path.sim
+    c.in_ok-take_up.ensures.alike c.in_ok-take_up.ensures.shares c.in_ok-take_up.ensures.long c.in_ok-take_up.ensures.is_run (c.take_up.ensures.only yes) c.play.new.path.sim
     c.play.new.pending.items
-    c.in_ok-play.ensures.plays.alike c.in_ok-play.ensures.off
+    c.in_ok-play.ensures.plays.alike (c.in_ok-play.ensures.plays.runs c.in_ok-take_up.ensures.is_run) c.in_ok-play.ensures.off
     c.note.new.self c.play.new.met c.args.self.now.out_of_steps true
-    (looks_ended c.take_up.new.path.sim c.play.new.path.sim (stems_of c.take_up.new.path.sim.run c.args.self.now.pending.items) (stems_of
+    (looks_ended c.args.mode c.take_up.new.path.sim c.play.new.path.sim (stems_of c.take_up.new.path.sim.run c.args.self.now.pending.items) (stems_of
     c.play.new.path.sim.run c.play.new.pending.items) c.args.self.now.found c.note.new.self
     c.args.self.now.met c.play.new.met (record { ranks = c.in_ok-ranks-in-Still.ranks.items; left = c.in_ok-left-in-Still.left.items })
     c.in_ok-play.ensures.plays c.in_ok-play.ensures.remembers
@@ -66,57 +66,58 @@ returns-in_ok-note-in-Still-clause-on c =
 pub returns-in-Met-clause-on : goal.returns-in-Met-clause-on
 returns-in-Met-clause-on c =
     let yes : c.take_up.result ≡ Ok true = (let one = c.in_ok-take_up.was in let two = c.if-not-branch.false in cc) in
-    on_looked c.args.self.now.path.sim c.take_up.new.path.sim c.args.self.now.pending.items c.args.branch c.args.self.now.found c.args.self.now.met
+    on_looked c.args.mode c.args.self.now.path.sim c.take_up.new.path.sim c.args.self.now.pending.items c.args.branch c.args.self.now.found c.args.self.now.met
     c.args.self.now.out_of_steps c.requires.on
-    c.in_ok-take_up.ensures.alike c.in_ok-take_up.ensures.shares c.in_ok-take_up.ensures.long (c.take_up.ensures.only yes) c.play.new.path.sim
+    c.in_ok-take_up.ensures.alike c.in_ok-take_up.ensures.shares c.in_ok-take_up.ensures.long c.in_ok-take_up.ensures.is_run (c.take_up.ensures.only yes) c.play.new.path.sim
     c.play.new.pending.items
-    c.in_ok-play.ensures.plays.alike c.in_ok-play.ensures.off
+    c.in_ok-play.ensures.plays.alike (c.in_ok-play.ensures.plays.runs c.in_ok-take_up.ensures.is_run) c.in_ok-play.ensures.off
     c.args.self.now.found c.play.new.met c.args.self.now.out_of_steps true
-    (looks_met c.take_up.new.path.sim c.play.new.path.sim (stems_of c.take_up.new.path.sim.run c.args.self.now.pending.items) (stems_of
+    (looks_met c.args.mode c.take_up.new.path.sim c.play.new.path.sim (stems_of c.take_up.new.path.sim.run c.args.self.now.pending.items) (stems_of
     c.play.new.path.sim.run c.play.new.pending.items) c.args.self.now.found
-    c.args.self.now.met c.play.new.met c.in_ok-play.ensures.plays c.in_ok-play.ensures.remembers (c.in_ok-play.ensures.met c.in-Met.is))
+    c.args.self.now.met c.play.new.met c.in_ok-play.ensures.plays c.in_ok-play.ensures.remembers
+    (c.in_ok-play.ensures.plays.runs c.in_ok-take_up.ensures.is_run) (c.in_ok-play.ensures.met c.in-Met.is))
     (λ e. (e, refl))
 
 pub returns-in_ok-note-in-Still-clause-enough : goal.returns-in_ok-note-in-Still-clause-enough
 returns-in_ok-note-in-Still-clause-enough c =
     let yes : c.take_up.result ≡ Ok true = (let one = c.in_ok-take_up.was in let two = c.if-not-branch.false in cc) in
-    fewer_looked c.args.self.now.path.sim c.take_up.new.path.sim c.args.self.now.pending.items c.args.branch c.args.self.now.found
+    fewer_looked c.args.mode c.args.self.now.path.sim c.take_up.new.path.sim c.args.self.now.pending.items c.args.branch c.args.self.now.found
     c.args.self.now.met c.args.self.now.out_of_steps c.requires.on
-    c.in_ok-take_up.ensures.alike c.in_ok-take_up.ensures.shares c.in_ok-take_up.ensures.long (c.take_up.ensures.only yes) c.play.new.path.sim
+    c.in_ok-take_up.ensures.alike c.in_ok-take_up.ensures.shares c.in_ok-take_up.ensures.long c.in_ok-take_up.ensures.is_run (c.take_up.ensures.only yes) c.play.new.path.sim
     c.play.new.pending.items
-    c.in_ok-play.ensures.plays.alike c.in_ok-play.ensures.off
+    c.in_ok-play.ensures.plays.alike (c.in_ok-play.ensures.plays.runs c.in_ok-take_up.ensures.is_run) c.in_ok-play.ensures.off
     (c.take_up.ensures.made yes) c.in_ok-play.ensures.enough
 
 pub returns-in-Met-clause-enough : goal.returns-in-Met-clause-enough
 returns-in-Met-clause-enough c =
     let yes : c.take_up.result ≡ Ok true = (let one = c.in_ok-take_up.was in let two = c.if-not-branch.false in cc) in
-    fewer_looked c.args.self.now.path.sim c.take_up.new.path.sim c.args.self.now.pending.items c.args.branch c.args.self.now.found
+    fewer_looked c.args.mode c.args.self.now.path.sim c.take_up.new.path.sim c.args.self.now.pending.items c.args.branch c.args.self.now.found
     c.args.self.now.met c.args.self.now.out_of_steps c.requires.on
-    c.in_ok-take_up.ensures.alike c.in_ok-take_up.ensures.shares c.in_ok-take_up.ensures.long (c.take_up.ensures.only yes) c.play.new.path.sim
+    c.in_ok-take_up.ensures.alike c.in_ok-take_up.ensures.shares c.in_ok-take_up.ensures.long c.in_ok-take_up.ensures.is_run (c.take_up.ensures.only yes) c.play.new.path.sim
     c.play.new.pending.items
-    c.in_ok-play.ensures.plays.alike c.in_ok-play.ensures.off
+    c.in_ok-play.ensures.plays.alike (c.in_ok-play.ensures.plays.runs c.in_ok-take_up.ensures.is_run) c.in_ok-play.ensures.off
     (c.take_up.ensures.made yes) c.in_ok-play.ensures.enough
 
 pub returns-in-Spent-clause-enough : goal.returns-in-Spent-clause-enough
 returns-in-Spent-clause-enough c =
     let yes : c.take_up.result ≡ Ok true = (let one = c.in_ok-take_up.was in let two = c.if-not-branch.false in cc) in
-    fewer_looked c.args.self.now.path.sim c.take_up.new.path.sim c.args.self.now.pending.items c.args.branch c.args.self.now.found
+    fewer_looked c.args.mode c.args.self.now.path.sim c.take_up.new.path.sim c.args.self.now.pending.items c.args.branch c.args.self.now.found
     c.args.self.now.met c.args.self.now.out_of_steps c.requires.on
-    c.in_ok-take_up.ensures.alike c.in_ok-take_up.ensures.shares c.in_ok-take_up.ensures.long (c.take_up.ensures.only yes) c.play.new.path.sim
+    c.in_ok-take_up.ensures.alike c.in_ok-take_up.ensures.shares c.in_ok-take_up.ensures.long c.in_ok-take_up.ensures.is_run (c.take_up.ensures.only yes) c.play.new.path.sim
     c.play.new.pending.items
-    c.in_ok-play.ensures.plays.alike c.in_ok-play.ensures.off
+    c.in_ok-play.ensures.plays.alike (c.in_ok-play.ensures.plays.runs c.in_ok-take_up.ensures.is_run) c.in_ok-play.ensures.off
     (c.take_up.ensures.made yes) c.in_ok-play.ensures.enough
 
 pub returns-in-Spent-clause-on : goal.returns-in-Spent-clause-on
 returns-in-Spent-clause-on c =
     let yes : c.take_up.result ≡ Ok true = (let one = c.in_ok-take_up.was in let two = c.if-not-branch.false in cc) in
-    on_looked c.args.self.now.path.sim c.take_up.new.path.sim c.args.self.now.pending.items c.args.branch c.args.self.now.found c.args.self.now.met
+    on_looked c.args.mode c.args.self.now.path.sim c.take_up.new.path.sim c.args.self.now.pending.items c.args.branch c.args.self.now.found c.args.self.now.met
     c.args.self.now.out_of_steps c.requires.on
-    c.in_ok-take_up.ensures.alike c.in_ok-take_up.ensures.shares c.in_ok-take_up.ensures.long (c.take_up.ensures.only yes) c.play.new.path.sim
+    c.in_ok-take_up.ensures.alike c.in_ok-take_up.ensures.shares c.in_ok-take_up.ensures.long c.in_ok-take_up.ensures.is_run (c.take_up.ensures.only yes) c.play.new.path.sim
     c.play.new.pending.items
-    c.in_ok-play.ensures.plays.alike c.in_ok-play.ensures.off
+    c.in_ok-play.ensures.plays.alike (c.in_ok-play.ensures.plays.runs c.in_ok-take_up.ensures.is_run) c.in_ok-play.ensures.off
     c.args.self.now.found c.play.new.met true false
-    (looks_cut c.take_up.new.path.sim c.play.new.path.sim (stems_of c.take_up.new.path.sim.run c.args.self.now.pending.items) (stems_of
+    (looks_cut c.args.mode c.take_up.new.path.sim c.play.new.path.sim (stems_of c.take_up.new.path.sim.run c.args.self.now.pending.items) (stems_of
     c.play.new.path.sim.run c.play.new.pending.items) c.args.self.now.found
     c.args.self.now.met c.play.new.met c.in_ok-play.ensures.plays c.in_ok-play.ensures.remembers)
     (λ e. absurd (let z : true ≡ false = e in cc))
@@ -132,7 +133,7 @@ returns-in-Spent-clause-back c = λ steps can. c.in_ok-play.ensures.back steps (
 
 pub returns-in-Spent-clause-beyond : goal.returns-in-Spent-clause-beyond
 returns-in-Spent-clause-beyond c = λ steps can before cut.
-    beyond_back c.args.self.now.path.sim c.take_up.new.path.sim steps c.in_ok-take_up.ensures.alike
+    beyond_back c.args.mode c.args.self.now.path.sim c.take_up.new.path.sim steps c.in_ok-take_up.ensures.alike
     (c.in_ok-play.ensures.beyond c.in-Spent.is steps (c.in_ok-take_up.ensures.back steps can).counts)
 
 pub returns-in_ok-note-in-Still-clause-closes : goal.returns-in_ok-note-in-Still-clause-closes
@@ -143,3 +144,9 @@ returns-in-Met-clause-closes c = c.in_ok-play.ensures.remembers.keeps.same
 
 pub returns-in-Spent-clause-closes : goal.returns-in-Spent-clause-closes
 returns-in-Spent-clause-closes c = c.in_ok-play.ensures.remembers.keeps.same
+
+pub take_up-requires-clause-is_run : goal.take_up-requires-clause-is_run
+take_up-requires-clause-is_run c = c.requires.on.is_run
+
+pub outcome_of-requires-clause-is_run : goal.outcome_of-requires-clause-is_run
+outcome_of-requires-clause-is_run c = c.in_ok-play.ensures.plays.runs c.in_ok-take_up.ensures.is_run

@@ -25,9 +25,9 @@ pub look-requires-clause-on : goal.look-requires-clause-on
 look-requires-clause-on c =
     let on = c.loop-branch.invariant.on in
     let last = popped_some c.loop-branch.self.pending.items c.pop.new.self.items c.pop.result c.in-Some.branch c.pop.ensures.items c.in-Some.is in
-    on_own c.args.self.now.path.sim.program (length c.args.self.now.path.sim.machines) c.loop-branch.self.path.sim
+    on_own c.args.mode c.args.self.now.path.sim.program (length c.args.self.now.path.sim.machines) c.loop-branch.self.path.sim
     (c.pop.new.self.items ++ c.in-Some.branch ∷ []) c.loop-branch.self.found c.loop-branch.self.met c.loop-branch.self.out_of_steps
-    (subst (λ (z : List Branch). IsOn c.args.self.now.path.sim.program (length c.args.self.now.path.sim.machines) c.loop-branch.self.path.sim z
+    (subst (λ (z : List Branch). IsOn c.args.mode c.args.self.now.path.sim.program (length c.args.self.now.path.sim.machines) c.loop-branch.self.path.sim z
     c.loop-branch.self.found c.loop-branch.self.met c.loop-branch.self.out_of_steps) last on)
 
 pub loop-branch-preserved : goal.loop-branch-preserved
@@ -37,16 +37,16 @@ loop-branch-preserved c =
     let last = popped_some c.loop-branch.self.pending.items c.pop.new.self.items c.pop.result c.in-Some.branch c.pop.ensures.items c.in-Some.is in
     record {
       on =
-          on_back c.args.self.now.path.sim.program (length c.args.self.now.path.sim.machines) s c.look.new.self.path.sim c.look.new.self.pending.items
+          on_back c.args.mode c.args.self.now.path.sim.program (length c.args.self.now.path.sim.machines) s c.look.new.self.path.sim c.look.new.self.pending.items
           c.look.new.self.found c.look.new.self.met c.look.new.self.out_of_steps on.program_same on.ranks c.in_ok-look.ensures.on;
       enough =
           λ k e.
           (let x = c.loop-branch.invariant.enough k e in
           let before = x.2 in
           let fewer =
-          fewer_back c.args.self.now.path.sim.program (length c.args.self.now.path.sim.machines) s s.run c.look.new.self.path.sim.run
+          fewer_back c.args.mode c.args.self.now.path.sim.program (length c.args.self.now.path.sim.machines) s s.run c.look.new.self.path.sim.run
           (c.pop.new.self.items ++ c.in-Some.branch ∷ []) c.look.new.self.pending.items on.program_same on.ranks c.in_ok-look.ensures.enough x.0
-          (subst (λ (z : List Branch). EnoughForAll c.args.self.now.path.sim.program (length c.args.self.now.path.sim.machines) x.0 (stems_of s.run z))
+          (subst (λ (z : List Branch). EnoughForAll c.args.mode c.args.self.now.path.sim.program (length c.args.self.now.path.sim.machines) x.0 (stems_of s.run z))
           last x.1) in
           let less = fewer.2 in
           (fewer.0, fewer.1, omega (arith, before, less)));
@@ -54,7 +54,7 @@ loop-branch-preserved c =
       back = λ steps can. c.in_ok-look.ensures.back steps (c.loop-branch.invariant.back steps can);
       beyond =
           λ steps can start.
-          beyond_on c.args.self.now.path.sim.program (length c.args.self.now.path.sim.machines) s steps c.loop-branch.self.out_of_steps
+          beyond_on c.args.mode c.args.self.now.path.sim.program (length c.args.self.now.path.sim.machines) s steps c.loop-branch.self.out_of_steps
           c.look.new.self.out_of_steps on.program_same on.ranks (c.loop-branch.invariant.beyond steps can start)
           (c.in_ok-look.ensures.beyond steps (c.loop-branch.invariant.back steps can));
     }
@@ -65,7 +65,7 @@ returns-then-branch-clause-back c = λ steps can. c.in_ok-look.ensures.back step
 pub returns-then-branch-clause-beyond : goal.returns-then-branch-clause-beyond
 returns-then-branch-clause-beyond c = λ steps can start.
     (let on = c.loop-branch.invariant.on in
-    beyond_on c.args.self.now.path.sim.program (length c.args.self.now.path.sim.machines) c.loop-branch.self.path.sim steps
+    beyond_on c.args.mode c.args.self.now.path.sim.program (length c.args.self.now.path.sim.machines) c.loop-branch.self.path.sim steps
     c.loop-branch.self.out_of_steps c.look.new.self.out_of_steps on.program_same on.ranks (c.loop-branch.invariant.beyond steps can start)
     (c.in_ok-look.ensures.beyond steps (c.loop-branch.invariant.back steps can)))
 

@@ -9,17 +9,17 @@ use Rattle.explore.proofs.ongoing.Search.look_on.Given as goal
 -- how far it has come, with fewer branches left
 abbrev pub invariant-loop-branch : goal.invariant-loop-branch
 invariant-loop-branch l = record {
-  on : IsOn l.initial.self.path.sim.program (length l.initial.self.path.sim.machines) l.self.path.sim l.self.pending.items l.self.found l.self.met
+  on : IsOn l.mode l.initial.self.path.sim.program (length l.initial.self.path.sim.machines) l.self.path.sim l.self.pending.items l.self.found l.self.met
       l.self.out_of_steps;
-  enough : (k : ℕ) → EnoughForAll l.initial.self.path.sim.program (length l.initial.self.path.sim.machines) k
+  enough : (k : ℕ) → EnoughForAll l.mode l.initial.self.path.sim.program (length l.initial.self.path.sim.machines) k
       (stems_of l.initial.self.path.sim.run l.initial.self.pending.items)
-      → (i : ℕ) × EnoughForAll l.initial.self.path.sim.program (length l.initial.self.path.sim.machines) i (stems_of l.self.path.sim.run l.self.pending.items)
+      → (i : ℕ) × EnoughForAll l.mode l.initial.self.path.sim.program (length l.initial.self.path.sim.machines) i (stems_of l.self.path.sim.run l.self.pending.items)
       × (i ≤ k);
   closes : l.self.met.closes ≡ l.initial.self.met.closes;
   back : KeepsStops l.initial.self.path.sim l.initial.self.path.left l.initial.self.stops l.self.path.sim l.self.path.left l.self.stops;
   beyond : (steps : ℕ) → CanGoBack steps l.initial.self.path.sim l.initial.self.path.left l.initial.self.stops
-      → (l.initial.self.out_of_steps ≡ true → GoesBeyond l.initial.self.path.sim.program (length l.initial.self.path.sim.machines) steps)
-      → l.self.out_of_steps ≡ true → GoesBeyond l.initial.self.path.sim.program (length l.initial.self.path.sim.machines) steps;
+      → (l.initial.self.out_of_steps ≡ true → GoesBeyond l.mode l.initial.self.path.sim.program (length l.initial.self.path.sim.machines) steps)
+      → l.self.out_of_steps ≡ true → GoesBeyond l.mode l.initial.self.path.sim.program (length l.initial.self.path.sim.machines) steps;
 }
 
 abbrev pub decreases-loop-branch : goal.decreases-loop-branch

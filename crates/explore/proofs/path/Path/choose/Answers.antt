@@ -23,17 +23,17 @@ returns-clause-counts c =
     (rw (left, c.from.ensures) refl)
 
 pub returns-clause-choices : goal.returns-clause-choices
-returns-clause-choices c =
-    let allowed : (s : SimValue) → s ≡ c.act.new.self → Allows c.args.self.now.sim c.args.chosen.rank c.args.chosen.choice s = λ s e. rw e
+returns-clause-choices c = λ mode free.
+    (let allowed : (s : SimValue) → s ≡ c.act.new.self → Allows c.args.self.now.sim c.args.chosen.rank c.args.chosen.choice s = λ s e. rw e
     (on_value c.act.result c.act.ensures.ok (sym c.is_err.ensures.value ∙ c.if-is_err.false)) in
-    elim c.if-others.branch as (λ _. KeepsChoices c.args.self.now c.if-others.self) [
+    elim c.if-others.branch as (λ _. KeepsChoices mode c.args.self.now c.if-others.self) [
       | then-others+in_ok-push w ↦
           (let sim : c.if-others.self.sim ≡ c.act.new.self = ap (λ z. z.sim) w.self-is in
-          choice_made c.args.self.now c.if-others.self c.args.chosen c.noted-noted.result c.ranks.ensures.stands (rw sim c.act.ensures.stands)
-          c.requires.at (allowed c.if-others.self.sim sim) c.noted-noted.ensures
+          choice_made mode c.args.self.now c.if-others.self c.args.chosen c.noted-noted.result c.ranks.ensures.stands (rw sim c.act.ensures.stands)
+          c.requires.at free (allowed c.if-others.self.sim sim) c.noted-noted.ensures
           (ap (λ z. z.choices.items) w.self-is ∙ w.in_ok-push.ensures.items))
       | else-others w ↦
           (let sim : c.if-others.self.sim ≡ c.act.new.self = ap (λ z. z.sim) w.self-is in
-          choice_passed c.args.self.now c.if-others.self c.args.chosen c.ranks.ensures.stands (rw sim c.act.ensures.stands) c.requires.at
+          choice_passed mode c.args.self.now c.if-others.self c.args.chosen c.ranks.ensures.stands (rw sim c.act.ensures.stands) c.requires.at
           (allowed c.if-others.self.sim sim) (ap (λ z. z.choices.items) w.self-is))
-    ]
+    ])

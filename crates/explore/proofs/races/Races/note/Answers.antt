@@ -7,8 +7,8 @@ use Rattle.explore.proofs.races.Races.note.Goals as goal
 pub add-requires : goal.add-requires
 add-requires c =
     let low : c.loop-at.at - 1 < length c.args.moves.now = omega (arith, c.loop-at.invariant, c.loop-at-test.true) in
-    (c.requires (get_or c.args.moves.now (c.loop-at.at - 1) (move_of 0 Next)) (among_index c.args.moves.now (c.loop-at.at - 1) (move_of 0 Next) low)).0
+    c.requires (get_or c.args.moves.now (c.loop-at.at - 1) (move_of 0 Next)) (among_index c.args.moves.now (c.loop-at.at - 1) (move_of 0 Next) low)
 
 pub add-requires-then-before-next : goal.add-requires-then-before-next
 add-requires-then-before-next c =
-    (c.requires (get_or c.args.moves.now c.loop-at.at (move_of 0 Next)) (among_index c.args.moves.now c.loop-at.at (move_of 0 Next) c.loop-at-test.true)).0
+    c.requires (get_or c.args.moves.now c.loop-at.at (move_of 0 Next)) (among_index c.args.moves.now c.loop-at.at (move_of 0 Next) c.loop-at-test.true)

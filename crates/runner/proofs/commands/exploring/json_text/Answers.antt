@@ -4,6 +4,7 @@ use Rattle.explore.specs.Shown.{AreMarked}
 use Rattle.runner.proofs.Written.{is_marked_object}
 use Rattle.runner.specs.SentLines.{AreLined}
 use Rattle.runner.proofs.commands.exploring.json_text.Goals as goal
+use Rattle.explore.specs.declared.send_mode.SendMode.TheVariants.{Buffered}
 
 -- the object that was written has the marks of the program and the lines of sends
 pub returns : goal.returns
@@ -12,7 +13,7 @@ returns c = IfOk-weaker c.explored_json.result _ _
     c.as_slice-2.result.now (string_bytes answer)
     (subst (AreLined c.args.program.now c.args.job.ranks c.args.lines.now c.args.found.now.outcomes c.args.found.now.left)
     (sym c.as_slice.ensures.value) c.in_ok-left.ensures)
-    (subst (AreMarked c.args.program.now c.args.job.ranks c.args.found.now.outcomes c.args.found.now.choices) (sym c.as_slice-2.ensures.value)
+    (subst (AreMarked Buffered c.args.program.now c.args.job.ranks c.args.found.now.outcomes c.args.found.now.choices) (sym c.as_slice-2.ensures.value)
     c.in_ok-marks.ensures)
     written)
     c.explored_json.ensures

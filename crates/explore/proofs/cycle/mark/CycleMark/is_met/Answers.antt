@@ -13,5 +13,5 @@ returns-then-acts-self-clause-yes c = λ e.
     (let s = c.args.sim.now in
     let mark = c.args.self.now in
     let now = subst (λ rows. StandsIn s rows s.run) (c.is_same.ensures (of_ok c.is_same.result e)) c.in_ok-write_ranks.ensures in
-    for_ever s mark.standing mark.made c.requires.from now
+    for_ever c.args.mode s mark.standing mark.made c.requires.is_run c.requires.from now
     (subst (λ k. mark.made < k) (ap length c.acts.ensures ∙ length-reverse s.run) c.if-acts-self.true))
