@@ -7,7 +7,7 @@ packets of a context of their own, as in the machine: a barrier goes to rank 0 a
 that was searched before, with the same printed lines, isn't searched again.
 
 In place of what a rank prints, an outcome may have what it sends, also in collectives, or what its
-receives get.
+receives get, each with the line at which it does.
 
 If sends are synchronous, a rank with a message that isn't received yet makes no step, not even one
 that no other rank sees. Packets of collectives don't count.
@@ -71,8 +71,27 @@ def names(body) -> set[str]:
     return found
 
 
+def declared(body) -> list[str]:
+    return sorted(names(body) | {"x", "y"})
+
+
 def whole_text(body) -> str:
-    return "".join(f"var {name}\n" for name in sorted(names(body) | {"x", "y"})) + text(body) + "\n"
+    return "".join(f"var {name}\n" for name in declared(body)) + text(body) + "\n"
+
+
+def with_lines(body, line: int) -> tuple[tuple, int]:
+    """The statements, each with its line at its end, where the first stands on this one; and the
+    line behind them."""
+    found = []
+    for s in body:
+        here, parts, line = line, [], line + 1
+        for part in s[2:] if s[0] in ("if", "while") else ():
+            # (there is no `else` without statements behind it)
+            part, line = with_lines(part, line + (len(parts) == 1 and bool(part)))
+            parts.append(part)
+        line += len(parts) > 0
+        found.append((*(s[:2] if parts else s), *parts, here))
+    return tuple(found), line
 
 
 class Fault(Exception):
@@ -221,10 +240,10 @@ def steps(r: Rank, k: int, size: int, queues, told: str = PRINTS):
     elif kind == "send":
         dest = rank_of(s[1])
         packet = ("user", k, tag_of(s[2]), of(s[3]))
-        yield telling(on, told, SENDS, (dest, packet)), put(queues, k, dest, packet)
+        yield telling(on, told, SENDS, (dest, packet, s[-1])), put(queues, k, dest, packet)
     elif kind == "recv":
         for a, index, packet in eligible(queues, k, size, rank_of(s[1]), tag_of(s[2])):
-            after = telling(on, told, RECEPTIONS, packet)
+            after = telling(on, told, RECEPTIONS, (packet, s[-1]))
             yield set_to(after, **{s[3]: packet[3]}, source=a, gottag=packet[2], count=1), without(queues, a, k, index)
     elif kind == "probe":
         for a, _, packet in eligible(queues, k, size, rank_of(s[1]), tag_of(s[2])):
@@ -254,7 +273,7 @@ def parts(r: Rank, on: Rank, s, k: int, size: int, queues, of, told: str):
         way, a = plan[r.part]
         if way == "to":
             packet = ("all", k, kind, gives)
-            after, left = telling(r, told, SENDS, (a, packet))._replace(part=r.part + 1, total=total), put(queues, k, a, packet)
+            after, left = telling(r, told, SENDS, (a, packet, s[-1]))._replace(part=r.part + 1, total=total), put(queues, k, a, packet)
         else:
             found = collective(queues, k, size, a)
             if found is None:
@@ -294,6 +313,8 @@ def search(body, size: int, most_states: int, synchronous: bool = False, told: s
             return f"fault {r.fault}"
         return "stalled" if r.todo or (synchronous and waits(state[1], k, size)) else "halted"
 
+    if told != PRINTS:
+        body = with_lines(body, len(declared(body)) + 1)[0]
     begin = (tuple(settled(Rank(tuple(body), (), ()), k, size) for k in range(size)), ((),) * (size * size))
     seen, left, found = {begin}, [begin], set()
     while left:

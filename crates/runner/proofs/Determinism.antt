@@ -7,31 +7,35 @@ use Rattle.audit.specs.FinalRuns.Maximal.{RankOutcome}
 use Rattle.explore.specs.Explored.{ExploredValue}
 use Rattle.explore.specs.Outcomes.{IsAmong}
 use Rattle.rank_language.specs.Program.{ProgramValue}
+use Rattle.runner.specs.Apart.{AreLinesApart}
 use Rattle.runner.specs.Determinism.{AreAlike, ArePartedAt, IsKnown, PrintsOther, printed}
 use Rattle.runner.specs.Searches.{IsFoundBy}
+use Rattle.runner.specs.declared.commands.apart.Apart.{Apart}
 use Rattle.runner.specs.declared.commands.determinism.Determinism.TheVariants as known
 
 -- all was found, and it is alike
-pub is_same : (program : ProgramValue) (job : ExploreJob) (found : ExploredValue) → IsFoundBy program job found → found.complete ≡ true
-    → AreAlike found.outcomes → IsKnown program job.ranks found known.Same
-is_same program job found searched complete alike =
+pub is_same : (program : ProgramValue) (lines : List ℕ) (job : ExploreJob) (found : ExploredValue) → IsFoundBy program job found → found.complete ≡ true
+    → AreAlike found.outcomes → IsKnown program lines job.ranks found known.Same
+is_same program lines job found searched complete alike =
     let all = searched.complete complete in
     IsKnown.same complete (λ one other a b. alike.alike one other (all.no_others one a) (all.no_others other b))
 
 -- not all was found
-pub is_stopped : (program : ProgramValue) (job : ExploreJob) (found : ExploredValue) → found.complete ≡ false → AreAlike found.outcomes
-    → IsKnown program job.ranks found known.Stopped
-is_stopped program job found stopped alike = IsKnown.stopped stopped alike
+pub is_stopped : (program : ProgramValue) (lines : List ℕ) (job : ExploreJob) (found : ExploredValue) → found.complete ≡ false
+    → AreAlike found.outcomes → IsKnown program lines job.ranks found known.Stopped
+is_stopped program lines job found stopped alike = IsKnown.stopped stopped alike
 
 -- two that were found differ
-pub is_differing : (program : ProgramValue) (job : ExploreJob) (found : ExploredValue) (rank : ℕ) → IsFoundBy program job found
-    → ArePartedAt rank found.outcomes → IsKnown program job.ranks found (known.Differ rank)
-is_differing program job found rank searched parted = IsKnown.differ (record {
-  one = parted.one;
-  other = parted.other;
-  one_possible = searched.possible parted.one parted.one_among;
-  other_possible = searched.possible parted.other parted.other_among;
-  apart = parted.apart;
+pub is_differing : (program : ProgramValue) (lines : List ℕ) (job : ExploreJob) (found : ExploredValue) (one other : List RankOutcome) (apart : Apart)
+    (rank : ℕ) → IsFoundBy program job found → ArePartedAt rank one other found.outcomes → apart.rank ≡ rank
+    → AreLinesApart program lines job.ranks one other apart → IsKnown program lines job.ranks found (known.Differ apart)
+is_differing program lines job found one other apart rank searched parted same at_lines = IsKnown.differ (record {
+  one = one;
+  other = other;
+  one_possible = searched.possible one parted.one_among;
+  other_possible = searched.possible other parted.other_among;
+  apart = subst (λ (r : ℕ). PrintsOther r one other) (sym same) parted.apart;
+  at_lines = at_lines;
 })
 
 -- Outcomes before this one are like the first.
@@ -66,9 +70,8 @@ alike_all (first ∷ outcomes) k alike all = record { alike = λ one other a b. 
 
 -- this one differs from the first
 pub parted : (outcomes : List (List RankOutcome)) (k rank : ℕ) (first o : List RankOutcome) → slice_get outcomes 0 ≡ Some first
-    → slice_get outcomes k ≡ Some o → PrintsOther rank first o → ArePartedAt rank outcomes
-parted outcomes k rank first o begins here apart =
-    record { one = first; other = o; one_among = (0, begins); other_among = (k, here); apart = apart }
+    → slice_get outcomes k ≡ Some o → PrintsOther rank first o → ArePartedAt rank first o outcomes
+parted outcomes k rank first o begins here apart = record { one_among = (0, begins); other_among = (k, here); apart = apart }
 
 -- what stands at a place printed its lines
 printed_at : (outcome : List RankOutcome) (i : ℕ) (x : RankOutcome) → slice_get outcome i ≡ Some x → slice_get (printed outcome) i ≡ Some x.lines

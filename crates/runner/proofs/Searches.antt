@@ -148,9 +148,9 @@ events_printed lines program job found told out number is played = record {
 }
 
 -- what a search of a telling program says
-pub of_telling : (what : Telling) (text : List ℕ) (program : ProgramValue) (job : ExploreJob) (found : ExploredValue) (told : Determinism)
-    → IsTelling what text program → IsFoundBy program job found → IsKnown program job.ranks found told → IsToldOf what text job told
-of_telling what text program job found told is searched told_of = IsToldOf.searched program found is searched told_of
+pub of_telling : (what : Telling) (text : List ℕ) (program : ProgramValue) (lines : List ℕ) (job : ExploreJob) (found : ExploredValue) (told : Determinism)
+    → IsTelling what text program lines → IsFoundBy program job found → IsKnown program lines job.ranks found told → IsToldOf what text job told
+of_telling what text program lines job found told is searched told_of = IsToldOf.searched program lines found is searched told_of
 
 -- sends and receptions aren't looked for
 pub untold_text : (text : List ℕ) (job : ExploreJob) (found : ExploredValue) (old new : List ℕ) → needs_telling job found ≡ false → new ≡ old

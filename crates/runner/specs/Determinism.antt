@@ -1,7 +1,7 @@
 -- Whether each rank's sends are the same in all runs of a program: then it is send-deterministic
 -- (Cappello, Guermouche and Snir, 2010), and rollback recovery may rely on that. So it is asked of
 -- receptions. Both are looked for among the runs of a telling program (docs/MPI.md, "Send-determinism").
-use Rattle.std.specs.Prelude.{◌≡◌, ◌≢◌, ℕ, ℤ, Bool, true, false, not, ◌&&◌, List, [], ◌++◌, map, slice_get, codes}
+use Rattle.std.specs.Prelude.{◌≡◌, ◌≢◌, ◌==◌, ℕ, ℤ, Bool, true, false, not, ◌&&◌, if◌then◌else◌, List, [], ◌++◌, Option, Some, None, map, max, min, slice_get, codes}
 use Rattle.std.specs.Fmt.{decimal}
 use Rattle.command_line.specs.declared.exploring.ExploreForm.{ExploreForm}
 use Rattle.command_line.specs.declared.exploring.ExploreForm.TheVariants as form
@@ -11,6 +11,8 @@ use Rattle.explore.specs.Sending.{IsPossibleUnder}
 use Rattle.explore.specs.Explored.{ExploredValue}
 use Rattle.explore.specs.Outcomes.{IsAmong}
 use Rattle.rank_language.specs.Program.{ProgramValue}
+use Rattle.runner.specs.Apart.{AreLinesApart}
+use Rattle.runner.specs.declared.commands.apart.Apart.{Apart}
 use Rattle.runner.specs.declared.commands.determinism.Determinism.{Determinism}
 use Rattle.runner.specs.declared.commands.determinism.Determinism.TheVariants as known
 use Rattle.synchronous.specs.declared.telling.Telling.{Telling}
@@ -29,10 +31,8 @@ pub record AreAlike (outcomes : List (List RankOutcome)) : Type 0 where
 abbrev pub PrintsOther : ℕ → List RankOutcome → List RankOutcome → Type 0
 PrintsOther rank one other = slice_get (printed one) rank ≢ slice_get (printed other) rank
 
--- so it is of two of these
-pub record ArePartedAt (rank : ℕ) (outcomes : List (List RankOutcome)) : Type 0 where
-  pub one : List RankOutcome
-  pub other : List RankOutcome
+-- so it is of these two of the outcomes
+pub record ArePartedAt (rank : ℕ) (one other : List RankOutcome) (outcomes : List (List RankOutcome)) : Type 0 where
   pub one_among : IsAmong outcomes one
   pub other_among : IsAmong outcomes other
   pub apart : PrintsOther rank one other
@@ -41,20 +41,23 @@ pub record ArePartedAt (rank : ℕ) (outcomes : List (List RankOutcome)) : Type 
 abbrev pub IsSameInAll : ProgramValue → ℕ → Type 0
 IsSameInAll program n = (one other : List RankOutcome) → IsPossibleUnder Buffered program n one → IsPossibleUnder Buffered program n other → printed one ≡ printed other
 
--- this rank prints other lines in some run than in another
-pub record Differs (program : ProgramValue) (n rank : ℕ) : Type 0 where
+-- this rank prints other lines in some run than in another, and these are the lines of the text at
+-- which it first prints another value
+pub record Differs (program : ProgramValue) (lines : List ℕ) (n : ℕ) (first : Apart) : Type 0 where
   pub one : List RankOutcome
   pub other : List RankOutcome
   pub one_possible : IsPossibleUnder Buffered program n one
   pub other_possible : IsPossibleUnder Buffered program n other
-  pub apart : PrintsOther rank one other
+  pub apart : PrintsOther first.rank one other
+  pub at_lines : AreLinesApart program lines n one other first
 
--- What is known after a search of the telling program: each rank prints the same in all its runs, or
--- this one doesn't; or all outcomes that were found are alike, and the search isn't complete.
-pub data IsKnown (program : ProgramValue) (n : ℕ) (found : ExploredValue) : Determinism → Type 0 where
-  same : found.complete ≡ true → IsSameInAll program n → IsKnown program n found known.Same
-  differ : {rank : ℕ} → Differs program n rank → IsKnown program n found (known.Differ rank)
-  stopped : found.complete ≡ false → AreAlike found.outcomes → IsKnown program n found known.Stopped
+-- What is known after a search of the telling program, whose statements stand on these lines: each rank
+-- prints the same in all its runs, or this one doesn't; or all outcomes that were found are alike, and
+-- the search isn't complete.
+pub data IsKnown (program : ProgramValue) (lines : List ℕ) (n : ℕ) (found : ExploredValue) : Determinism → Type 0 where
+  same : found.complete ≡ true → IsSameInAll program n → IsKnown program lines n found known.Same
+  differ : {apart : Apart} → Differs program lines n apart → IsKnown program lines n found (known.Differ apart)
+  stopped : found.complete ≡ false → AreAlike found.outcomes → IsKnown program lines n found known.Stopped
 
 -- the job asks for the short form
 abbrev pub is_summary : ExploreForm → Bool
@@ -73,10 +76,27 @@ abbrev pub same_text : Telling → List ℕ
 same_text telling.Sends = codes "# send-deterministic: each rank's sends are the same in all runs\n"
 same_text telling.Receptions = codes "# each rank's receptions are the same in all runs\n"
 
--- the line if it isn't
-unfoldable pub differ_text : Telling → ℕ → List ℕ
-differ_text telling.Sends rank = codes "# not send-deterministic: rank " ++ decimal rank ++ codes " doesn't send the same in all runs\n"
-differ_text telling.Receptions rank = codes "# rank " ++ decimal rank ++ codes " doesn't receive the same in all runs\n"
+-- which rank's sends or receptions aren't
+unfoldable pub who_differs : Telling → ℕ → List ℕ
+who_differs telling.Sends rank = codes "# not send-deterministic: rank " ++ decimal rank ++ codes " doesn't send the same in all runs"
+who_differs telling.Receptions rank = codes "# rank " ++ decimal rank ++ codes " doesn't receive the same in all runs"
+
+-- the lower and the higher of two lines, as far as they are known
+abbrev pub lines_between : Option ℕ → Option ℕ → Option (ℕ × ℕ)
+lines_between None None = None
+lines_between None (Some line) = Some (line, line)
+lines_between (Some line) None = Some (line, line)
+lines_between (Some one) (Some other) = Some (min one other, max one other)
+
+-- at which lines, as `, first at line 3` or `, first at lines 3 and 4`
+unfoldable pub first_text : Option (ℕ × ℕ) → List ℕ
+first_text None = []
+first_text (Some (line, other)) =
+    if line == other then codes ", first at line " ++ decimal line else codes ", first at lines " ++ decimal line ++ codes " and " ++ decimal other
+
+-- the line if it isn't all the same
+abbrev pub differ_text : Telling → Apart → List ℕ
+differ_text t apart = who_differs t apart.rank ++ first_text (lines_between apart.one apart.other) ++ codes "\n"
 
 -- the line if there is no telling program
 abbrev pub past_text : Telling → List ℕ
@@ -92,6 +112,6 @@ stopped_text telling.Receptions = codes "# not known whether receptions are the 
 abbrev pub known_text : Telling → Determinism → List ℕ
 known_text t known.Untold = []
 known_text t known.Same = same_text t
-known_text t (known.Differ rank) = differ_text t rank
+known_text t (known.Differ apart) = differ_text t apart
 known_text t known.PastLimits = past_text t
 known_text t known.Stopped = stopped_text t

@@ -15,6 +15,7 @@ pub mod SentLines
 pub mod Meanings
 pub mod Waits
 pub mod Safety
+pub mod Apart
 pub mod Determinism
 pub mod SearchObject
 pub mod OutcomesText

@@ -84,8 +84,8 @@ pub record IsSafetyOf (text lines : List ℕ) (program : ProgramValue) (job : Ex
 pub data IsToldOf (what : Telling) (text : List ℕ) (job : ExploreJob) : Determinism → Type 0 where
   past : IsUntellable what text → IsToldOf what text job known.PastLimits
   faulty : {line : ℕ} {kind : FaultKind} → IsFaultOf text line kind → IsToldOf what text job known.Untold
-  searched : {told : Determinism} (program : ProgramValue) (found : ExploredValue) → IsTelling what text program → IsFoundBy program job found
-      → IsKnown program job.ranks found told → IsToldOf what text job told
+  searched : {told : Determinism} (program : ProgramValue) (lines : List ℕ) (found : ExploredValue) → IsTelling what text program lines
+      → IsFoundBy program job found → IsKnown program lines job.ranks found told → IsToldOf what text job told
 
 -- these lines say it of sends, and of receptions
 pub record AreToldOf (text : List ℕ) (job : ExploreJob) (lines : List ℕ) : Type 0 where

@@ -19,6 +19,7 @@ ghost use Rattle.command_line.specs.Words.{texts};
 ghost use Rattle.runner.specs.Answers.{IsJobAnswer};
 ghost use Rattle.runner.specs.Commands.{IsCommandAnswer};
 
+mod apart;
 mod c;
 mod check;
 mod determinism;

@@ -12,16 +12,10 @@ use Rattle.synchronous.specs.Free.{HasNoneFree, IsAdded, compute_tags}
 use Rattle.synchronous.specs.Synchronous.{HasComputedTag, IsPastLimits, IsSynchronousOf}
 use Rattle.synchronous.specs.declared.added.Added.{Added}
 
--- the lines are those of statements on these lines
-pub lines_stand : (text : List ℕ) (forms : List Form) (numbers lines : List ℕ) → StandOn text forms numbers
-    → ((added : Added) → lines ≡ acknowledged_lines added numbers forms)
-    → (numbers : List ℕ) × StandOn text forms numbers × ((added : Added) → lines ≡ acknowledged_lines added numbers forms)
-lines_stand text forms numbers lines stand lined = (numbers, stand, lined)
-
 -- a program and its lines
 pub is_synchronous : (text : List ℕ) (forms : List Form) (added : Added) (p : ProgramValue) (lines : List ℕ) → IsText text forms
     → IsAdded forms added → IsProgramOf (program_text (acknowledged_forms added forms)) p
-    → (numbers : List ℕ) × StandOn text forms numbers × ((a : Added) → lines ≡ acknowledged_lines a numbers forms)
+    → (numbers : List ℕ) × StandOn text forms numbers × (lines ≡ acknowledged_lines added numbers forms)
     → IsSynchronousOf text p lines
 is_synchronous text forms added p lines reads is_added program stands = record {
   forms = forms;
@@ -31,7 +25,7 @@ is_synchronous text forms added p lines reads is_added program stands = record {
   program = program;
   numbers = stands.0;
   stand = stands.1;
-  lined = stands.2 added;
+  lined = stands.2;
 }
 
 -- a tag that is computed

@@ -12,13 +12,14 @@
 --
 -- That both are the same runs is argued here and tested, not proved. A receive that is too short
 -- for its message ends its rank, and acknowledges nothing.
-use Rattle.std.specs.Prelude.{ℕ, zero, suc, List, [], ◌∷◌, ◌++◌, length}
+use Rattle.std.specs.Prelude.{ℕ, List, [], ◌∷◌, ◌++◌, length}
 use Rattle.rank_text.specs.declared.grammar.token.Reading.{Reading}
 use Rattle.rank_text.specs.declared.grammar.token.Reading.TheVariants.{Rank, Size, Source, Tag, Count}
 use Rattle.rank_text.specs.Grammar.Tree.{Tree, number, variable, item, reading, negation, operation}
 use Rattle.rank_text.specs.Grammar.Forms.{Pattern, any, value, Payload, lone, one}
 use Rattle.rank_text.specs.Grammar.Forms.{Form, var_form, array_form, let_form, item_form, if_form, else_form, end_form, while_form}
 use Rattle.rank_text.specs.Grammar.Forms.{send_form, recv_form, probe_form, try_probe_form, print_form, barrier_form, bcast_form, reduce_form}
+use Rattle.synchronous.specs.Lines.{lines_each, repeated}
 use Rattle.synchronous.specs.declared.added.Added.{Added}
 
 -- what the program keeps of the status is read in its place
@@ -116,17 +117,6 @@ declares a = var_form a.source ∷ var_form a.gottag ∷ var_form a.count ∷ va
 abbrev pub acknowledged_forms : Added → List Form → List Form
 acknowledged_forms a fs = declares a ++ acknowledged_each a fs
 
--- a line, so many times
-abbrev pub repeated : ℕ → ℕ → List ℕ
-repeated n zero = []
-repeated n (suc times) = n ∷ repeated n times
-
--- statements stand on the line of the one that they stand for
-abbrev pub lines_each : Added → List ℕ → List Form → List ℕ
-lines_each a [] fs = []
-lines_each a (n ∷ ns) [] = []
-lines_each a (n ∷ ns) (f ∷ fs) = repeated n (length (acknowledged a f)) ++ lines_each a ns fs
-
--- those of the acknowledged program: its own variables are declared on no line, which is 0 here
+-- the lines on which they stand: the program's own variables are declared on no line, which is 0 here
 abbrev pub acknowledged_lines : Added → List ℕ → List Form → List ℕ
-acknowledged_lines a ns fs = repeated 0 4 ++ lines_each a ns fs
+acknowledged_lines a ns fs = repeated 0 4 ++ lines_each (acknowledged a) ns fs

@@ -1,4 +1,5 @@
 pub mod Acknowledged
 pub mod Free
+pub mod Lines
 pub mod Synchronous
 pub mod Telling

@@ -13,7 +13,7 @@
 -- are told alike.
 --
 -- That both are the same runs is argued here and tested, not proved.
-use Rattle.std.specs.Prelude.{ℕ, if◌then◌else◌, List, [], ◌∷◌, ◌++◌, Option, Some, None}
+use Rattle.std.specs.Prelude.{◌≡◌, ℕ, if◌then◌else◌, List, [], ◌∷◌, ◌++◌, Option, Some, None}
 use Rattle.std.specs.Str.{bytes_eq}
 use Rattle.rank_text.specs.Checker.Faults.{IsFaultOf, IsText}
 use Rattle.rank_text.specs.declared.checker.fault.ProgramFault.{ProgramFault}
@@ -28,7 +28,9 @@ use Rattle.rank_text.specs.Grammar.Forms.{send_form, recv_form, probe_form, try_
 use Rattle.rank_text.specs.Printer.Canonical.{program_text}
 use Rattle.rank_language.specs.Correct.{IsProgramOf}
 use Rattle.rank_language.specs.Program.{ProgramValue}
+use Rattle.rank_language.specs.StandOn.{StandOn}
 use Rattle.synchronous.specs.Free.{HasFreeNames, HasNoneFree}
+use Rattle.synchronous.specs.Lines.{lines_each}
 use Rattle.synchronous.specs.declared.added.Added.{Added}
 use Rattle.synchronous.specs.declared.telling.Telling.{Telling}
 use Rattle.synchronous.specs.declared.telling.Telling.TheVariants as telling
@@ -167,13 +169,22 @@ with_each t a fs (g ∷ gs) = with_told t a fs g ++ with_each t a fs gs
 abbrev pub telling_forms : Telling → Added → List Form → List Form
 telling_forms t a fs = var_form a.reply ∷ with_each t a fs fs
 
--- the program is that of the canonical text of the telling statements of this text
-pub record IsTelling (t : Telling) (text : List ℕ) (p : ProgramValue) : Type 0 where
+-- the lines on which they stand, so that what is told of a statement has its line; the program's own
+-- variable is declared on no line, which is 0 here
+abbrev pub telling_lines : Telling → Added → List ℕ → List Form → List ℕ
+telling_lines t a ns fs = 0 ∷ lines_each (with_told t a fs) ns fs
+
+-- the program is that of the canonical text of the telling statements of this text, and they stand on
+-- these lines of this text
+pub record IsTelling (t : Telling) (text : List ℕ) (p : ProgramValue) (lines : List ℕ) : Type 0 where
   pub forms : List Form
   pub reads : IsText text forms
   pub added : Added
   pub names : HasFreeNames forms added
   pub program : IsProgramOf (program_text (telling_forms t added forms)) p
+  pub numbers : List ℕ
+  pub stand : StandOn text forms numbers
+  pub lined : lines ≡ telling_lines t added numbers forms
 
 -- No name is free, or the telling statements of this text aren't those of a text: they are too many,
 -- declare too many variables, open too many blocks, or an expression is too large.

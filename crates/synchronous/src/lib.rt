@@ -10,6 +10,7 @@ pub mod fault;
 mod free;
 mod heard;
 mod heard_form;
+mod lined_forms;
 mod statements;
 pub mod telling;
 

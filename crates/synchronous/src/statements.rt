@@ -1,15 +1,16 @@
-//! The statements of the acknowledged program, and the lines on which they stand.
+//! The statements of the acknowledged program.
 ghost use Rattle.std.specs.Prelude.{◌≡◌, ◌++◌, IfOk, OnOk, ◌∷◌, [], length};
 ghost use Rattle.rank_text.specs.Checker.SeenLines.{forms_seen};
 ghost use Rattle.rank_text.specs.Grammar.Forms.{end_form, if_form};
 ghost use Rattle.rank_text.specs.Grammar.SeenForms.{form_seen};
 ghost use Rattle.rank_text.specs.Grammar.Tree.{tree_of, variable};
-ghost use Rattle.synchronous.specs.declared.added.Added.{Added};
-ghost use Rattle.synchronous.specs.Acknowledged.{acknowledged, acknowledged_forms, acknowledged_lines, acknowledges, behind, declares, keeps, repeated, waits};
+ghost use Rattle.synchronous.specs.Acknowledged.{acknowledged, acknowledged_forms, acknowledged_lines, acknowledges, behind, declares, keeps, waits};
+ghost use Rattle.synchronous.specs.Lines.{repeated};
 
 use crate::added::Added;
 use crate::heard::heard;
 use crate::heard_form::heard_form;
+use crate::lined_forms::LinedForms;
 use limits::Heap;
 use rank_text::grammar::{Form, Name, Pattern, Payload, Reading, Written};
 use std::alloc::AllocError;
@@ -122,69 +123,59 @@ fn put_acknowledged(
     put_behind(alloc, forms, added, form)
 }
 
-/// The statements of the acknowledged program.
-pub(crate) fn acknowledged_forms(
-    alloc: Heap,
-    added: &Added,
-    forms: &[Form],
-) -> Result<Vec<Form, Heap>, AllocError>
-    ensures { IfOk result (λ all. forms_seen all.items ≡ acknowledged_forms added.now (forms_seen forms.now)) }
+/// The variables of the program's own, which are declared on no line of the text.
+#[tactic(auto, using(crate::proofs::Putting::not_more))]
+fn declared(alloc: Heap, added: &Added) -> Result<LinedForms, AllocError>
+    ensures forms { IfOk result (λ all. forms_seen all.forms.items ≡ declares added.now) }
+    ensures lines { IfOk result (λ all. all.lines.items ≡ repeated 0 4) }
+    ensures each { IfOk result (λ all. length all.lines.items ≡ length all.forms.items) }
 {
-    let mut all = Vec::new(alloc);
-    put_declarations(&mut all, added)?;
-    for form in forms {
-        put_acknowledged(alloc, &mut all, added, form)?;
-    }
+    let mut all = LinedForms::new(alloc);
+    put_declarations(&mut all.forms, added)?;
+    all.stand_on(0)?;
     Ok(all)
 }
 
-/// How many statements stand for one.
-fn width(form: &Form) -> usize
-    ensures { (added : Added) → result ≡ length (acknowledged added (form_seen form.now)) }
+/// Puts the statements that stand for one, which stand on its line.
+#[tactic(auto, using(crate::proofs::Putting::not_more))]
+fn put_on(
+    alloc: Heap,
+    to: &mut LinedForms,
+    added: &Added,
+    line: usize,
+    form: &Form,
+) -> Result<(), AllocError>
+    requires { length to.old.lines.items ≡ length to.old.forms.items }
+    ensures forms { OnOk result (forms_seen to.new.forms.items ≡ forms_seen to.old.forms.items ++ acknowledged added.now (form_seen form.now)) }
+    ensures lines { OnOk result (to.new.lines.items ≡ to.old.lines.items ++ repeated line (length (acknowledged added.now (form_seen form.now)))) }
+    ensures each { OnOk result (length to.new.lines.items ≡ length to.new.forms.items) }
 {
-    match form {
-        Form::Send(..) => 2,
-        Form::Recv(..) => 5,
-        Form::Probe(..) => 4,
-        Form::TryProbe(..) => 6,
-        Form::Var(_) | Form::Array(..) | Form::Let(..) | Form::LetItem(..) => 1,
-        Form::If(_) | Form::Else | Form::End | Form::While(_) | Form::Print(_) => 1,
-        Form::Barrier | Form::Bcast(..) | Form::Reduce(..) => 1,
-    }
-}
-
-/// Puts a line so many times.
-#[tactic(auto, using(crate::proofs::Putting::repeated_more))]
-fn put_line(lines: &mut Vec<usize, Heap>, line: usize, times: usize) -> Result<(), AllocError>
-    ensures { OnOk result (lines.new.items ≡ lines.old.items ++ repeated line times) }
-{
-    let mut left = times;
-    while left > 0 {
-        lines.push(line)?;
-        left -= 1;
-    }
+    put_acknowledged(alloc, &mut to.forms, added, form)?;
+    to.stand_on(line)?;
     Ok(())
 }
 
-/// The lines on which the statements of the acknowledged program stand.
-pub(crate) fn acknowledged_lines(
+/// The statements of the acknowledged program, made of the text's, which stand on these lines.
+pub(crate) fn acknowledged_forms(
     alloc: Heap,
+    added: &Added,
     numbers: &[usize],
     forms: &[Form],
-) -> Result<Vec<usize, Heap>, AllocError>
-    ensures { IfOk result (λ lines. (added : Added) → lines.items ≡ acknowledged_lines added numbers.now (forms_seen forms.now)) }
+) -> Result<LinedForms, AllocError>
+    requires { length numbers.now ≡ length forms.now }
+    ensures forms { IfOk result (λ all. forms_seen all.forms.items ≡ acknowledged_forms added.now (forms_seen forms.now)) }
+    ensures lines { IfOk result (λ all. all.lines.items ≡ acknowledged_lines added.now numbers.now (forms_seen forms.now)) }
 {
-    let mut lines = Vec::new(alloc);
-    put_line(&mut lines, 0, 4)?;
+    let mut all = declared(alloc, added)?;
     let mut numbers_left = numbers;
     let mut left = forms;
-    while let [number, more_numbers @ ..] = numbers_left {
-        let [form, more @ ..] = left else {
-            return Ok(lines);
+    while let [form, more @ ..] = left {
+        let [number, more_numbers @ ..] = numbers_left else {
+            return Ok(all);
         };
-        put_line(&mut lines, *number, width(form))?;
+        put_on(alloc, &mut all, added, *number, form)?;
         numbers_left = more_numbers;
         left = more;
     }
-    Ok(lines)
+    Ok(all)
 }

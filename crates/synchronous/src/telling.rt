@@ -1,13 +1,11 @@
 //! The telling programs of a text.
-ghost use Rattle.std.specs.Prelude.{◌≡◌, Err, IfOk};
+ghost use Rattle.std.specs.Prelude.{◌≡◌, ℕ, Err, IfOk, List};
 ghost use Rattle.rank_text.specs.Checker.Faults.{IsFaultOf, IsText};
 ghost use Rattle.rank_text.specs.Checker.SeenLines.{forms_seen};
-ghost use Rattle.rank_text.specs.Printer.Canonical.{program_text};
-ghost use Rattle.rank_text.specs.declared.checker.fault.ParseFault.TheVariants as parse;
 ghost use Rattle.rank_text.specs.declared.checker.fault.ProgramFault.{ProgramFault};
-ghost use Rattle.rank_language.specs.Correct.{IsProgramOf};
+ghost use Rattle.rank_language.specs.StandOn.{StandOn};
 ghost use Rattle.synchronous.specs.Free.{HasFreeNames};
-ghost use Rattle.synchronous.specs.Telling.{IsTelling, IsUntellable, telling_forms};
+ghost use Rattle.synchronous.specs.Telling.{IsTelling, IsUntellable, telling_forms, telling_lines};
 ghost use Rattle.synchronous.specs.declared.telling.TellingFault.TheVariants.{Fault, PastLimits};
 
 mod copied;
@@ -16,12 +14,12 @@ mod tells;
 
 use crate::added::Added;
 use crate::free::free_names;
+use crate::lined_forms::LinedForms;
 use crate::telling::statements::telling_forms;
 use limits::Heap;
-use rank_language::Program;
+use rank_language::{LinedProgram, statement_lines};
 use rank_text::checker::{ParseFault, ProgramFault, read};
 use rank_text::grammar::Form;
-use rank_text::printer::print;
 use std::alloc::AllocError;
 
 /// What the ranks of a telling program print.
@@ -41,34 +39,22 @@ pub enum TellingFault {
     Memory,
 }
 
-fn telling_text(
+/// The telling statements, with the lines of the text on which they stand.
+fn stated(
     alloc: Heap,
     telling: Telling,
+    text: &[u8],
     added: &Added,
     forms: &[Form],
-) -> Result<Vec<u8, Heap>, AllocError>
-    ensures { IfOk result (λ text. text.items ≡ program_text (telling_forms telling added.now (forms_seen forms.now))) }
+) -> Result<LinedForms, AllocError>
+    requires { IsText text.now (forms_seen forms.now) }
+    ensures forms { IfOk result (λ all. forms_seen all.forms.items ≡ telling_forms telling added.now (forms_seen forms.now)) }
+    ensures lines { IfOk result (λ all. (numbers : List ℕ) × StandOn text.now (forms_seen forms.now) numbers
+        × (all.lines.items ≡ telling_lines telling added.now numbers (forms_seen forms.now))) }
 {
-    let all = telling_forms(alloc, telling, added, forms)?;
-    let text = print(alloc, all.as_slice());
-    drop(all);
-    text
-}
-
-/// The program of that text.
-fn program_of(
-    alloc: Heap,
-    telling: Telling,
-    added: &Added,
-    forms: &[Form],
-) -> Result<Program, ParseFault>
-    ensures program { IfOk result (λ program. IsProgramOf (program_text (telling_forms telling added.now (forms_seen forms.now))) program) }
-    ensures fault { (f : ProgramFault) → result ≡ Err (parse.Fault f) → IsFaultOf (program_text (telling_forms telling added.now (forms_seen forms.now))) f.line f.kind }
-{
-    match telling_text(alloc, telling, added, forms) {
-        Ok(text) => Program::parse(alloc, text.as_slice()),
-        Err(_) => Err(ParseFault::Memory),
-    }
+    let numbers = statement_lines(alloc, text)?;
+    let all = telling_forms(alloc, telling, added, numbers.as_slice(), forms)?;
+    Ok(all)
 }
 
 /// The telling program of statements of the text, with these names.
@@ -79,15 +65,18 @@ fn with_names(
     text: &[u8],
     added: &Added,
     forms: &[Form],
-) -> Result<Program, TellingFault>
+) -> Result<LinedProgram, TellingFault>
     requires text { IsText text.now (forms_seen forms.now) }
     requires names { HasFreeNames (forms_seen forms.now) added.now }
-    ensures program { IfOk result (λ program. IsTelling telling text.now program) }
+    ensures program { IfOk result (λ lined. IsTelling telling text.now lined.program lined.lines.items) }
     ensures fault { (f : ProgramFault) → result ≡ Err (Fault f) → ⊥ }
     ensures past { result ≡ Err PastLimits → IsUntellable telling text.now }
 {
-    match program_of(alloc, telling, added, forms) {
-        Ok(program) => Ok(program),
+    let Ok(all) = stated(alloc, telling, text, added, forms) else {
+        return Err(TellingFault::Memory);
+    };
+    match all.into_program(alloc) {
+        Ok(lined) => Ok(lined),
         Err(ParseFault::Fault(_)) => Err(TellingFault::PastLimits),
         Err(ParseFault::Memory) => Err(TellingFault::Memory),
     }
@@ -99,9 +88,9 @@ fn of_forms(
     telling: Telling,
     text: &[u8],
     forms: &[Form],
-) -> Result<Program, TellingFault>
+) -> Result<LinedProgram, TellingFault>
     requires { IsText text.now (forms_seen forms.now) }
-    ensures program { IfOk result (λ program. IsTelling telling text.now program) }
+    ensures program { IfOk result (λ lined. IsTelling telling text.now lined.program lined.lines.items) }
     ensures fault { (f : ProgramFault) → result ≡ Err (Fault f) → ⊥ }
     ensures past { result ≡ Err PastLimits → IsUntellable telling text.now }
 {
@@ -112,9 +101,13 @@ fn of_forms(
 }
 
 /// The program whose ranks print what they send, or what they receive, in runs of a text's program,
-/// or why there is none.
-pub fn telling_program(alloc: Heap, telling: Telling, text: &[u8]) -> Result<Program, TellingFault>
-    ensures program { IfOk result (λ program. IsTelling telling text.now program) }
+/// with the lines of the text on which its statements stand, or why there is none.
+pub fn telling_program(
+    alloc: Heap,
+    telling: Telling,
+    text: &[u8],
+) -> Result<LinedProgram, TellingFault>
+    ensures program { IfOk result (λ lined. IsTelling telling text.now lined.program lined.lines.items) }
     ensures fault { (f : ProgramFault) → result ≡ Err (Fault f) → IsFaultOf text.now f.line f.kind }
     ensures past { result ≡ Err PastLimits → IsUntellable telling text.now }
 {

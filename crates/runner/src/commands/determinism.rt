@@ -1,17 +1,18 @@
 //! Whether each rank's sends, and its receptions, are the same in all runs: searches of the
 //! telling programs.
 ghost use Rattle.std.specs.Prelude.{◌≡◌, ◌++◌, ℕ, false, true, IfOk, IfSome, IsNone, List, OnOk, slice_get, string_bytes};
-ghost use Rattle.runner.specs.Determinism.{AreAlike, ArePartedAt, IsKnown, PrintsOther, is_summary, needs_telling, printed};
-ghost use Rattle.runner.specs.Determinism.{differ_text, known_text, past_text, same_text, stopped_text};
+ghost use Rattle.runner.specs.Determinism.{AreAlike, ArePartedAt, IsKnown, PrintsOther, is_summary, lines_between, needs_telling, printed};
+ghost use Rattle.runner.specs.Determinism.{differ_text, first_text, known_text, past_text, same_text, stopped_text, who_differs};
 ghost use Rattle.runner.specs.Searches.{IsDeterminismText, IsFoundBy, IsToldOf};
 
+use crate::commands::apart::{Apart, apart_of};
 use crate::commands::exploring::search;
 use crate::explored::outcome_at;
 use audit::final_runs::{RankEnd, has_lines};
 use command_line::{ExploreForm, ExploreJob};
-use explore::{Explored, Watch};
+use explore::{Explored, FoundOutcome, Watch};
 use limits::Heap;
-use rank_language::Program;
+use rank_language::LinedProgram;
 use std::alloc::AllocError;
 use std::fmt::Write;
 use synchronous::{Telling, TellingFault, telling_program};
@@ -22,8 +23,8 @@ pub enum Determinism {
     /// The text has no program.
     Untold,
     Same,
-    /// Those of this rank aren't.
-    Differ(usize),
+    /// Those of this rank aren't, and part at these lines.
+    Differ(Apart),
     /// The telling program passes a limit of texts.
     PastLimits,
     /// Its search came to a limit, and found no difference.
@@ -77,42 +78,59 @@ fn known_of<W: Watch>(
 ) -> Result<Determinism, AllocError>
     ensures { IfOk result (λ known. IsToldOf telling source.now job.entry known) }
 {
-    let program = match telling_program(alloc, telling, source) {
-        Ok(program) => program,
+    let told = match telling_program(alloc, telling, source) {
+        Ok(told) => told,
         Err(TellingFault::PastLimits) => return Ok(Determinism::PastLimits),
         // the text has a program, which was searched
         Err(TellingFault::Fault(_)) => return Ok(Determinism::Untold),
         Err(TellingFault::Memory) => return Err(AllocError),
     };
-    let found = search(alloc, job, &program, watch)?;
-    Ok(known_from(job, &program, &found))
+    let found = search(alloc, job, &told.program, watch)?;
+    let known = known_from(alloc, job, &told, &found)?;
+    Ok(known)
 }
 
 // What was found of a telling program says what is known.
 #[tactic(auto, using(crate::proofs::Determinism::is_same, crate::proofs::Determinism::is_stopped, crate::proofs::Determinism::is_differing))]
-fn known_from(job: ExploreJob<'_>, program: &Program, found: &Explored) -> Determinism
-    requires { IsFoundBy program.now job found.now }
-    ensures { IsKnown program.now job.entry.ranks found.now result }
+fn known_from(
+    alloc: Heap,
+    job: ExploreJob<'_>,
+    told: &LinedProgram,
+    found: &Explored,
+) -> Result<Determinism, AllocError>
+    requires { IsFoundBy told.now.program job found.now }
+    ensures { IfOk result (IsKnown told.now.program told.now.lines.items job.entry.ranks found.now) }
 {
-    match differing_rank(found) {
-        Some(rank) => Determinism::Differ(rank),
-        None if found.complete => Determinism::Same,
-        None => Determinism::Stopped,
+    match two_that_differ(found) {
+        Some(two) => {
+            let apart = apart_of(alloc, job, told, two.rank, two.one, two.other)?;
+            Ok(Determinism::Differ(apart))
+        }
+        None if found.complete => Ok(Determinism::Same),
+        None => Ok(Determinism::Stopped),
     }
 }
 
-// A rank that printed other lines in an outcome than in the first one.
+// Two outcomes in which a rank printed other lines.
+#[derive(Clone, Copy)]
+struct Differing<'a> {
+    rank: usize,
+    one: &'a FoundOutcome,
+    other: &'a FoundOutcome,
+}
+
+// The first outcome, and one in which a rank printed other lines than there.
 #[tactic(auto, using(crate::proofs::Determinism::alike_further, crate::proofs::Determinism::parted))]
-fn differing_rank(found: &Explored) -> Option<usize>
-    ensures some { IfSome result (λ rank. ArePartedAt rank found.now.outcomes) }
+fn two_that_differ(found: &Explored) -> Option<Differing<'_>>
+    ensures some { IfSome result (λ two. ArePartedAt two.rank two.one.now.ranks two.other.now.ranks found.now.outcomes) }
     ensures none { IsNone result → AreAlike found.now.outcomes }
 {
     let outcomes = found.outcomes.as_slice();
     for index in 0..outcomes.len() {
-        let first = outcome_at(found, 0);
-        let outcome = outcome_at(found, index);
-        if let Some(rank) = parting_rank(first.ranks.as_slice(), outcome.ranks.as_slice()) {
-            return Some(rank);
+        let one = outcome_at(found, 0);
+        let other = outcome_at(found, index);
+        if let Some(rank) = parting_rank(one.ranks.as_slice(), other.ranks.as_slice()) {
+            return Some(Differing { rank, one, other });
         }
     }
     None
@@ -160,7 +178,7 @@ fn print_known(
     match known {
         Determinism::Untold => Ok(()),
         Determinism::Same => print_same(text, telling),
-        Determinism::Differ(rank) => print_differ(text, telling, rank),
+        Determinism::Differ(apart) => print_differ(text, telling, apart),
         Determinism::PastLimits => print_past(text, telling),
         Determinism::Stopped => print_stopped(text, telling),
     }
@@ -178,18 +196,52 @@ fn print_same(text: &mut String<Heap>, telling: Telling) -> Result<(), AllocErro
     }
 }
 
-#[tactic(auto, unfolding(crate::specs::Determinism::differ_text))]
-fn print_differ(text: &mut String<Heap>, telling: Telling, rank: usize) -> Result<(), AllocError>
-    ensures { OnOk result (string_bytes text.new ≡ string_bytes text.old ++ differ_text telling rank) }
+fn print_differ(text: &mut String<Heap>, telling: Telling, apart: Apart) -> Result<(), AllocError>
+    ensures { OnOk result (string_bytes text.new ≡ string_bytes text.old ++ differ_text telling apart) }
+{
+    print_who_differs(text, telling, apart.rank)?;
+    print_first(text, lines_between(apart.one, apart.other))?;
+    text.push_str("\n")
+}
+
+#[tactic(auto, unfolding(crate::specs::Determinism::who_differs))]
+fn print_who_differs(
+    text: &mut String<Heap>,
+    telling: Telling,
+    rank: usize,
+) -> Result<(), AllocError>
+    ensures { OnOk result (string_bytes text.new ≡ string_bytes text.old ++ who_differs telling rank) }
 {
     match telling {
-        Telling::Sends => writeln!(
+        Telling::Sends => write!(
             text,
             "# not send-deterministic: rank {rank} doesn't send the same in all runs"
         ),
         Telling::Receptions => {
-            writeln!(text, "# rank {rank} doesn't receive the same in all runs")
+            write!(text, "# rank {rank} doesn't receive the same in all runs")
         }
+    }
+}
+
+// The lower and the higher one, if one is known.
+fn lines_between(one: Option<usize>, other: Option<usize>) -> Option<(usize, usize)>
+    ensures { result ≡ lines_between one other }
+{
+    match (one, other) {
+        (None, None) => None,
+        (Some(line), None) | (None, Some(line)) => Some((line, line)),
+        (Some(one), Some(other)) => Some((one.min(other), one.max(other))),
+    }
+}
+
+#[tactic(auto, unfolding(crate::specs::Determinism::first_text))]
+fn print_first(text: &mut String<Heap>, lines: Option<(usize, usize)>) -> Result<(), AllocError>
+    ensures { OnOk result (string_bytes text.new ≡ string_bytes text.old ++ first_text lines) }
+{
+    match lines {
+        None => Ok(()),
+        Some((line, other)) if line == other => write!(text, ", first at line {line}"),
+        Some((line, other)) => write!(text, ", first at lines {line} and {other}"),
     }
 }
 

@@ -82,7 +82,14 @@ fn with_line(message: Leftover, line: Option<usize>) -> LinedLeftover
 fn line_at(lines: &[usize], positions: &[usize], index: usize) -> Option<usize>
     ensures { result ≡ line_of lines.now (slice_get positions.now index) }
 {
-    lines.get(*positions.get(index)?).copied()
+    line_of(lines, positions.get(index).copied())
+}
+
+/// The line on which the statement at this position stands, of these lines.
+pub fn line_of(lines: &[usize], position: Option<usize>) -> Option<usize>
+    ensures { result ≡ line_of lines.now position }
+{
+    lines.get(position?).copied()
 }
 
 // The positions of the sends to the rank whose messages are among these.
@@ -140,7 +147,8 @@ fn add_lost(
     add_pending(positions, pending.as_slice())
 }
 
-fn position_at(places: &[Place], index: usize) -> Option<usize>
+/// The position of the act of this number, from 0, if its place is there.
+pub fn position_at(places: &[Place], index: usize) -> Option<usize>
     ensures { result ≡ position_at places.now index }
 {
     match places.get(index) {

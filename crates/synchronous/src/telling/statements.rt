@@ -1,10 +1,13 @@
 //! The statements of a telling program.
-ghost use Rattle.std.specs.Prelude.{◌≡◌, ◌++◌, IfOk, OnOk, ◌∷◌, []};
+ghost use Rattle.std.specs.Prelude.{◌≡◌, ◌++◌, IfOk, OnOk, ◌∷◌, [], length};
 ghost use Rattle.rank_text.specs.Checker.SeenLines.{forms_seen};
+ghost use Rattle.rank_text.specs.Grammar.Forms.{var_form};
 ghost use Rattle.rank_text.specs.Grammar.SeenForms.{form_seen};
-ghost use Rattle.synchronous.specs.Telling.{telling_forms, with_receptions, with_sends, with_told};
+ghost use Rattle.synchronous.specs.Lines.{repeated};
+ghost use Rattle.synchronous.specs.Telling.{telling_forms, telling_lines, with_receptions, with_sends, with_told};
 
 use crate::added::Added;
+use crate::lined_forms::LinedForms;
 use crate::statements::put;
 use crate::telling::Telling;
 use crate::telling::copied::copied_form;
@@ -92,19 +95,62 @@ fn put_with_told(
     }
 }
 
-/// The statements of the telling program.
+/// The variable of the program's own, which is declared on no line of the text.
+#[tactic(auto, using(crate::proofs::Putting::not_more))]
+fn declared(alloc: Heap, added: &Added) -> Result<LinedForms, AllocError>
+    ensures forms { IfOk result (λ all. forms_seen all.forms.items ≡ var_form added.now.reply ∷ []) }
+    ensures lines { IfOk result (λ all. all.lines.items ≡ 0 ∷ []) }
+    ensures each { IfOk result (λ all. length all.lines.items ≡ length all.forms.items) }
+{
+    let mut all = LinedForms::new(alloc);
+    put(&mut all.forms, Form::Var(added.reply))?;
+    all.stand_on(0)?;
+    Ok(all)
+}
+
+/// Puts the statements that stand for one, which stand on its line.
+#[tactic(auto, using(crate::proofs::Putting::not_more))]
+fn put_on(
+    alloc: Heap,
+    to: &mut LinedForms,
+    telling: Telling,
+    added: &Added,
+    forms: &[Form],
+    line: usize,
+    form: &Form,
+) -> Result<(), AllocError>
+    requires { length to.old.lines.items ≡ length to.old.forms.items }
+    ensures forms { OnOk result (forms_seen to.new.forms.items ≡ forms_seen to.old.forms.items ++ with_told telling added.now (forms_seen forms.now) (form_seen form.now)) }
+    ensures lines { OnOk result (to.new.lines.items ≡ to.old.lines.items ++ repeated line (length (with_told telling added.now (forms_seen forms.now) (form_seen form.now)))) }
+    ensures each { OnOk result (length to.new.lines.items ≡ length to.new.forms.items) }
+{
+    put_with_told(alloc, &mut to.forms, telling, added, forms, form)?;
+    to.stand_on(line)?;
+    Ok(())
+}
+
+/// The statements of the telling program, made of the text's, which stand on these lines.
 pub(crate) fn telling_forms(
     alloc: Heap,
     telling: Telling,
     added: &Added,
+    numbers: &[usize],
     forms: &[Form],
-) -> Result<Vec<Form, Heap>, AllocError>
-    ensures { IfOk result (λ all. forms_seen all.items ≡ telling_forms telling added.now (forms_seen forms.now)) }
+) -> Result<LinedForms, AllocError>
+    requires { length numbers.now ≡ length forms.now }
+    ensures forms { IfOk result (λ all. forms_seen all.forms.items ≡ telling_forms telling added.now (forms_seen forms.now)) }
+    ensures lines { IfOk result (λ all. all.lines.items ≡ telling_lines telling added.now numbers.now (forms_seen forms.now)) }
 {
-    let mut all = Vec::new(alloc);
-    put(&mut all, Form::Var(added.reply))?;
-    for form in forms {
-        put_with_told(alloc, &mut all, telling, added, forms, form)?;
+    let mut all = declared(alloc, added)?;
+    let mut numbers_left = numbers;
+    let mut left = forms;
+    while let [form, more @ ..] = left {
+        let [number, more_numbers @ ..] = numbers_left else {
+            return Ok(all);
+        };
+        put_on(alloc, &mut all, telling, added, forms, *number, form)?;
+        numbers_left = more_numbers;
+        left = more;
     }
     Ok(all)
 }

@@ -2,7 +2,7 @@ use Rattle.std.proofs.Common.{◌≡◌, ◌≤◌, List, length, ap, arith}
 use Rattle.explore.specs.Explored.{ExploredValue, FoundOutcomeValue, rank_outcomes}
 use Rattle.runner.proofs.Determinism.{alike_all}
 use Rattle.runner.proofs.Written.{as_many}
-use Rattle.runner.proofs.commands.determinism.differing_rank.Goals as goal
+use Rattle.runner.proofs.commands.determinism.two_that_differ.Goals as goal
 
 -- all were compared
 pub returns-clause-none : goal.returns-clause-none

@@ -1,0 +1,15 @@
+use Rattle.std.proofs.Common.{ℕ, List, [], ◌++◌, length, ap, sym, ◌∙◌}
+use Rattle.rank_text.specs.declared.grammar.form.Form as source_form
+use Rattle.synchronous.specs.Acknowledged.{declares}
+use Rattle.synchronous.specs.Lines.{repeated}
+use Rattle.synchronous.proofs.Putting.{so_many}
+use Rattle.synchronous.proofs.statements.declared.Goals as goal
+
+-- they have the line 0
+pub returns-clause-lines : goal.returns-clause-lines
+returns-clause-lines c =
+    so_many c.new-all.result.forms.items c.put_declarations.new.forms.items c.new-all.result.lines.items c.stand_on.new.self.lines.items
+    (declares c.args.added.now) 0
+    (ap (λ (xs : List ℕ). length xs) c.new-all.ensures.lines ∙ sym (ap (λ (fs : List source_form.Form). length fs) c.new-all.ensures.forms))
+    c.in_ok-put_declarations.ensures c.in_ok-stand_on.ensures.lines
+    ∙ ap (λ (xs : List ℕ). xs ++ repeated 0 4) c.new-all.ensures.lines
