@@ -1,6 +1,8 @@
 -- How the lines are found at which a rank parts.
 use Rattle.std.proofs.Common.{◌≡◌, ◌≢◌, ◌<◌, ◌-◌, ℕ, zero, suc, ℤ, List, [], ◌∷◌, Option, Some, None, ap, arith, refl, reverse, slice_get, subst, sym, ◌∙◌}
-use Rattle.audit.specs.FinalRuns.Maximal.{IsOutcomeOf, RankOutcome}
+use Rattle.audit.specs.FinalRuns.Maximal.{RankOutcome}
+use Rattle.explore.specs.Sending.{IsOutcomeUnder}
+use Rattle.explore.specs.declared.send_mode.SendMode.TheVariants.{Buffered}
 use Rattle.crash_free.specs.Runs.{Passed}
 use Rattle.crash_free.specs.Sim.{start_of}
 use Rattle.rank_language.specs.Program.{ProgramValue}
@@ -47,7 +49,7 @@ unknown_line program lines n outcome rank number = IsLineOfPrint.unknown
 
 -- one is
 pub known_line : (program : ProgramValue) (lines : List ℕ) (n : ℕ) (outcome : List RankOutcome) (rank number : ℕ) (run : List Passed) (line : Option ℕ)
-    → IsOutcomeOf (start_of program n) n run outcome
+    → IsOutcomeUnder Buffered (start_of program n) n run outcome
     → (places : List Place) × AreFound program n (reverse run) places × (line ≡ line_of lines (print_at rank places (reverse run) number))
     → IsLineOfPrint program lines n outcome rank number line
 known_line program lines n outcome rank number run line is there = IsLineOfPrint.known run there.0 is there.1 there.2

@@ -1,7 +1,9 @@
 -- At which lines a rank of a telling program first prints another value in one run than in another: there
 -- its sends, or its receptions, aren't the same (Cappello, Guermouche and Snir, 2010).
 use Rattle.std.specs.Prelude.{◌≡◌, ◌≢◌, ◌<◌, ◌==◌, ◌&&◌, ◌+◌, ℕ, ℤ, Bool, true, false, if◌then◌else◌, List, [], ◌∷◌, Option, Some, None, reverse, slice_get}
-use Rattle.audit.specs.FinalRuns.Maximal.{IsOutcomeOf, RankOutcome}
+use Rattle.audit.specs.FinalRuns.Maximal.{RankOutcome}
+use Rattle.explore.specs.Sending.{IsOutcomeUnder}
+use Rattle.explore.specs.declared.send_mode.SendMode.TheVariants.{Buffered}
 use Rattle.crash_free.specs.Runs.{Passed}
 use Rattle.crash_free.specs.Sim.{start_of}
 use Rattle.rank_language.specs.Program.{ProgramValue}
@@ -52,7 +54,7 @@ print_at rank places acts number = if_there (slice_get (prints_from rank places 
 -- told.
 pub data IsLineOfPrint (program : ProgramValue) (lines : List ℕ) (n : ℕ) (outcome : List RankOutcome) (rank number : ℕ) : Option ℕ → Type 0 where
   unknown : IsLineOfPrint program lines n outcome rank number None
-  known : {line : Option ℕ} (run : List Passed) (places : List Place) → IsOutcomeOf (start_of program n) n run outcome
+  known : {line : Option ℕ} (run : List Passed) (places : List Place) → IsOutcomeUnder Buffered (start_of program n) n run outcome
       → AreFound program n (reverse run) places → line ≡ line_of lines (print_at rank places (reverse run) number)
       → IsLineOfPrint program lines n outcome rank number line
 

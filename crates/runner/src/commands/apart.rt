@@ -12,7 +12,7 @@ use crate::commands::sent_lines::{line_of, position_at};
 use audit::final_runs::RankEnd;
 use command_line::ExploreJob;
 use crash_free::{Act, Passed, Sim};
-use explore::{FoundOutcome, run_of};
+use explore::{FoundOutcome, SendMode, run_of};
 use limits::Heap;
 use rank_language::LinedProgram;
 use run_shown::trace::{Place, places_of};
@@ -90,7 +90,14 @@ fn line_of_print(
 ) -> Result<Option<usize>, AllocError>
     ensures { IfOk result (IsLineOfPrint told.now.program told.now.lines.items job.entry.ranks outcome.now.ranks rank number) }
 {
-    match run_of(alloc, &told.program, job.ranks, limits_of(job), outcome)? {
+    match run_of(
+        alloc,
+        SendMode::Buffered,
+        &told.program,
+        job.ranks,
+        limits_of(job),
+        outcome,
+    )? {
         Some(run) => Ok(line_in(alloc, told, job.ranks, rank, number, &run)?),
         None => Ok(None),
     }
