@@ -14,7 +14,7 @@ use Rattle.runner.specs.declared.commands.apart.Apart.{Apart}
 use Rattle.runner.specs.declared.commands.determinism.Determinism.TheVariants as known
 
 -- all was found, and it is alike
-pub is_same : (program : ProgramValue) (lines : List ℕ) (job : ExploreJob) (found : ExploredValue) → IsFoundBy program job found → found.complete ≡ true
+pub is_same : (program : ProgramValue) (lines : List ℕ) (job : ExploreJob) (found : ExploredValue) → IsFoundBy program Buffered job found → found.complete ≡ true
     → AreAlike found.outcomes → IsKnown program lines job.ranks found known.Same
 is_same program lines job found searched complete alike =
     let all = searched.complete complete in
@@ -27,7 +27,7 @@ is_stopped program lines job found stopped alike = IsKnown.stopped stopped alike
 
 -- two that were found differ
 pub is_differing : (program : ProgramValue) (lines : List ℕ) (job : ExploreJob) (found : ExploredValue) (one other : List RankOutcome) (apart : Apart)
-    (rank : ℕ) → IsFoundBy program job found → ArePartedAt rank one other found.outcomes → apart.rank ≡ rank
+    (rank : ℕ) → IsFoundBy program Buffered job found → ArePartedAt rank one other found.outcomes → apart.rank ≡ rank
     → AreLinesApart program lines job.ranks one other apart → IsKnown program lines job.ranks found (known.Differ apart)
 is_differing program lines job found one other apart rank searched parted same at_lines = IsKnown.differ (record {
   one = one;

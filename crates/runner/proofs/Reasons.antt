@@ -26,10 +26,7 @@ use Rattle.rank_text.specs.declared.script.line.ScriptLine.{ScriptLine}
 use Rattle.rank_threads.specs.declared.report.RunFault.{RunFault}
 use Rattle.run_events.specs.declared.fault.PlayFault.{PlayFault}
 use Rattle.runner.specs.FinishText.{IsWithoutEnd}
-use Rattle.synchronous.specs.Synchronous.{HasComputedTag, IsPastLimits}
-use Rattle.synchronous.specs.declared.fault.SynchronousFault.{SynchronousFault}
-use Rattle.synchronous.specs.declared.fault.SynchronousFault.TheVariants as synchronous
-use Rattle.runner.specs.Reasons.{HasDrawnFault, HasNoAcknowledged, IsUnsearched, of_synchronous, HasEventsFault, HasNoEnd, HasNoEvents}
+use Rattle.runner.specs.Reasons.{HasDrawnFault, HasEventsFault, HasNoEnd, HasNoEvents}
 use Rattle.runner.specs.Reasons.{HasNoOutcome, HasNoOutcomeOf, HasNoReport, HasOutcomeFault, HasProgramFault, HasScriptFault}
 use Rattle.runner.specs.Reasons.{IsEventsRefusal, IsExplainRefusal, IsFileRefusal, IsJudgeRefusal, IsOutcomeRefusal, IsProgramRefusal}
 use Rattle.runner.specs.Reasons.{IsRunRefusal}
@@ -244,25 +241,13 @@ pub search_unread : (holds : List ℕ → List ℕ → Type 0) (job : ExploreJob
     → UnlessMemory (IsUnread job.program) refused → UnlessMemory (IsSearchRefusal holds job) refused
 search_unread holds job refused is other = IsSearchRefusal.search_program (inl (is other))
 
--- why a text has no acknowledged program
-pub unsearched : (asked : Bool) (text : List ℕ) (fault : SynchronousFault) → asked ≡ true
-    → ((f : ProgramFault) → fault ≡ synchronous.Fault f → IsFaultOf text f.line f.kind) → (fault ≡ synchronous.ComputedTag → HasComputedTag text)
-    → (fault ≡ synchronous.PastLimits → IsPastLimits text) → IsUnsearched asked text fault
-unsearched asked text (synchronous.Fault f) is first computed past = first f refl
-unsearched asked text synchronous.ComputedTag is first computed past = (is, computed refl)
-unsearched asked text synchronous.PastLimits is first computed past = (is, past refl)
-unsearched asked text synchronous.Memory is first computed past = tt
-
--- nothing is searched of its text
-pub search_unsearched : (holds : List ℕ → List ℕ → Type 0) (job : ExploreJob) (text : List ℕ) (fault : SynchronousFault) (refused : Refusal)
-    → holds job.program.now text → IsUnsearched job.synchronous text fault → refused ≡ of_synchronous fault → UnlessMemory (IsSearchRefusal holds job) refused
-search_unsearched holds job text (synchronous.Fault f) refused held is told other =
-    IsSearchRefusal.search_program (inr (record { text = text; held = held; fault = f; first = is; told = told }))
-search_unsearched holds job text synchronous.ComputedTag refused held is told other =
-    IsSearchRefusal.search_synchronous is.0 (HasNoAcknowledged.computed text held is.1 told)
-search_unsearched holds job text synchronous.PastLimits refused held is told other =
-    IsSearchRefusal.search_synchronous is.0 (HasNoAcknowledged.past text held is.1 told)
-search_unsearched holds job text synchronous.Memory refused held is told other = absurd (other told)
+-- its text is no program
+pub search_unparsed : {A : Type 0} (holds : List ℕ → List ℕ → Type 0) (job : ExploreJob) (text : List ℕ) (answer : Result A ParseFault) (fault : ParseFault)
+    (refused : Refusal) → holds job.program.now text → answer ≡ Err fault → ((f : ProgramFault) → answer ≡ Err (parse.Fault f) → IsFaultOf text f.line f.kind) → refused ≡ of_parse fault
+    → UnlessMemory (IsSearchRefusal holds job) refused
+search_unparsed holds job text answer (parse.Fault f) refused held is first told other =
+    IsSearchRefusal.search_program (inr (record { text = text; held = held; fault = f; first = first f is; told = told }))
+search_unparsed holds job text answer parse.Memory refused held is first told other = absurd (other told)
 
 -- the outcome whose events it asks for has none
 pub search_of_outcome : (holds : List ℕ → List ℕ → Type 0) (job : ExploreJob) (refused : Refusal)

@@ -16,39 +16,38 @@ use Rattle.audit.specs.FinalRuns.Final.{IsFinal}
 use Rattle.audit.specs.FinalRuns.Maximal.{RankOutcome}
 use Rattle.explore.specs.Sending.{IsPossibleUnder}
 use Rattle.rank_language.specs.Program.{ProgramValue}
+use Rattle.rank_language.specs.StandOn.{IsLinedOf}
 use Rattle.runner.proofs.Crashes.{prints_only}
 use Rattle.run_events.specs.Masking.{EndsAmong, IsMasked}
 use Rattle.runner.specs.Crashes.{AreMasked}
 use Rattle.runner.specs.Determinism.{IsKnown, known_text, needs_telling}
 use Rattle.runner.specs.Events.{PlaysOutcome}
+use Rattle.runner.specs.Modes.{mode_of}
 use Rattle.runner.specs.OutcomesText.{IsMarkedObject, IsMarkedSummary, IsMarkedText}
-use Rattle.rank_text.specs.Checker.Faults.{IsFaultOf}
-use Rattle.rank_text.specs.declared.checker.fault.ProgramFault.{ProgramFault}
 use Rattle.runner.specs.Safety.{IsVerdict, needs_second}
-use Rattle.runner.specs.Searches.{HasSearchStatus, IsDeterminismText, IsExploreAnswer, IsFoundBy, IsPrinted, IsSafetyOf, IsSearchAnswer, IsSearchedOf, IsSecond, IsToldOf}
+use Rattle.runner.specs.Searches.{HasSearchStatus, IsDeterminismText, IsExploreAnswer, IsFoundBy, IsPrinted, IsSafetyOf, IsSearchAnswer, IsSecond, IsToldOf}
 use Rattle.runner.specs.declared.commands.determinism.Determinism.{Determinism}
 use Rattle.runner.specs.declared.explored.safety.Safety.{Safety}
 use Rattle.runner.specs.declared.explored.safety.Safety.TheVariants as safety
-use Rattle.runner.specs.declared.explored.safety.Unknown.TheVariants as unknown
-use Rattle.synchronous.specs.Synchronous.{HasComputedTag, IsPastLimits, IsSynchronousOf}
 use Rattle.synchronous.specs.Telling.{IsTelling}
 use Rattle.synchronous.specs.declared.telling.Telling.{Telling}
 use Rattle.synchronous.specs.declared.telling.Telling.TheVariants as telling
-use Rattle.explore.specs.declared.send_mode.SendMode.TheVariants.{Buffered}
+use Rattle.explore.specs.declared.send_mode.SendMode.{SendMode}
+use Rattle.explore.specs.declared.send_mode.SendMode.TheVariants.{Buffered, Synchronous}
 
 -- what a search found within limits that are the job's, where crashes add no outcome to those of a complete one
-pub is_found_by : (program : ProgramValue) (job : ExploreJob) (found : ExploredValue) (runs steps : ℕ) → runs ≡ job.runs → steps ≡ job.steps
+pub is_found_by : (program : ProgramValue) (mode : SendMode) (job : ExploreJob) (found : ExploredValue) (runs steps : ℕ) → runs ≡ job.runs → steps ≡ job.steps
     → ((p : ProgramValue) (n : ℕ) (outcomes : List (List RankOutcome)) (o : OutcomeValue) → EndsAmong p n outcomes → IsFinal p n o
     → IsMasked outcomes n o)
-    → ((outcome : List RankOutcome) → IsAmong found.outcomes outcome → IsPossibleUnder Buffered program job.ranks outcome)
-    → (found.complete ≡ true → AreAll Buffered program job.ranks found.outcomes)
-    → AreLeftovers Buffered program job.ranks found.complete found.outcomes found.left
-    → (found.complete ≡ true → AlwaysEndsIn Buffered (start_of program job.ranks) job.ranks (IsAmong found.outcomes) [])
-    → (IsSmall Buffered program job.ranks runs steps → found.complete ≡ true)
+    → ((outcome : List RankOutcome) → IsAmong found.outcomes outcome → IsPossibleUnder mode program job.ranks outcome)
+    → (found.complete ≡ true → AreAll mode program job.ranks found.outcomes)
+    → AreLeftovers mode program job.ranks found.complete found.outcomes found.left
+    → (found.complete ≡ true → AlwaysEndsIn mode (start_of program job.ranks) job.ranks (IsAmong found.outcomes) [])
+    → (IsSmall mode program job.ranks runs steps → found.complete ≡ true)
     → (found.complete ≡ false → (found.runs ≡ runs) ⊎ IsTrue found.out_of_steps)
-    → (found.out_of_steps ≡ true → GoesBeyond Buffered program job.ranks steps) → AreDistinct found.outcomes → found.runs ≤ runs → found.closed ≡ false
-    → IsFoundBy program job found
-is_found_by program job found runs steps these those law possible complete left ends small stopped beyond distinct few_runs plain = record {
+    → (found.out_of_steps ≡ true → GoesBeyond mode program job.ranks steps) → AreDistinct found.outcomes → found.runs ≤ runs → found.closed ≡ false
+    → IsFoundBy program mode job found
+is_found_by program mode job found runs steps these those law possible complete left ends small stopped beyond distinct few_runs plain = record {
   possible = possible;
   complete = complete;
   closed = λ is. absurd (no is);
@@ -57,28 +56,29 @@ is_found_by program job found runs steps these those law possible complete left 
   endless = λ is. absurd (no is);
   ends = ends;
   masks = masks;
-  only = λ all outcome is. prints_only program job.ranks found.outcomes outcome (masks all) is;
-  small = subst (λ (r : ℕ). IsSmall Buffered program job.ranks r job.steps → found.complete ≡ true) these
-      (subst (λ (s : ℕ). IsSmall Buffered program job.ranks runs s → found.complete ≡ true) those small);
+  only = λ same all outcome is. prints_only program job.ranks found.outcomes outcome (masks same all) is;
+  small = subst (λ (r : ℕ). IsSmall mode program job.ranks r job.steps → found.complete ≡ true) these
+      (subst (λ (s : ℕ). IsSmall mode program job.ranks runs s → found.complete ≡ true) those small);
   stopped = λ is _. subst (λ (r : ℕ). (found.runs ≡ r) ⊎ IsTrue found.out_of_steps) these (stopped is);
-  beyond = subst (λ (s : ℕ). found.out_of_steps ≡ true → GoesBeyond Buffered program job.ranks s) those beyond;
+  beyond = subst (λ (s : ℕ). found.out_of_steps ≡ true → GoesBeyond mode program job.ranks s) those beyond;
   distinct = distinct;
   few_runs = subst (λ (r : ℕ). found.runs ≤ r) these few_runs;
 }
   where
-    masks : found.complete ≡ true → AreMasked program job.ranks found.outcomes
-    masks all o final = law program job.ranks found.outcomes o (ends all) final
+    masks : mode ≡ Buffered → found.complete ≡ true → AreMasked program job.ranks found.outcomes
+    masks same all o final =
+        law program job.ranks found.outcomes o (subst (λ m. AlwaysEndsIn m (start_of program job.ranks) job.ranks (IsAmong found.outcomes) []) same (ends all)) final
 
     no : found.closed ≡ true → ⊥
     no is = (let e : true ≡ false = sym is ∙ plain in absurd cc)
 
 -- what a search found that closes over states, where one that isn't complete was made before
-pub ends_found_by : (program : ProgramValue) (job : ExploreJob) (before found : ExploredValue) (runs steps : ℕ) → runs ≡ job.runs → steps ≡ job.steps
-    → before.complete ≡ false → (IsSmall Buffered program job.ranks runs steps → before.complete ≡ true)
-    → AreAll Buffered program job.ranks found.outcomes → AreLeftovers Buffered program job.ranks true found.outcomes found.left → MayGoOnForEver Buffered program job.ranks
+pub ends_found_by : (program : ProgramValue) (mode : SendMode) (job : ExploreJob) (before found : ExploredValue) (runs steps : ℕ) → runs ≡ job.runs → steps ≡ job.steps
+    → before.complete ≡ false → (IsSmall mode program job.ranks runs steps → before.complete ≡ true)
+    → AreAll mode program job.ranks found.outcomes → AreLeftovers mode program job.ranks true found.outcomes found.left → MayGoOnForEver mode program job.ranks
     → (found.closed ≡ true) × (found.complete ≡ false) → AreDistinct found.outcomes → found.runs ≤ runs
-    → (found.out_of_steps ≡ true → GoesBeyond Buffered program job.ranks steps) → IsFoundBy program job found
-ends_found_by program job before found runs steps these those stopped small all left endless closed distinct few_runs beyond = record {
+    → (found.out_of_steps ≡ true → GoesBeyond mode program job.ranks steps) → IsFoundBy program mode job found
+ends_found_by program mode job before found runs steps these those stopped small all left endless closed distinct few_runs beyond = record {
   possible = all.possible;
   complete = λ _. all;
   closed = λ _. all;
@@ -86,12 +86,12 @@ ends_found_by program job before found runs steps these those stopped small all 
   all_left = λ _. left;
   endless = λ _. endless;
   ends = λ is. absurd (no is);
-  masks = λ is. absurd (no is);
-  only = λ is. absurd (no is);
-  small = λ is. absurd (no_small (subst (λ (r : ℕ). IsSmall Buffered program job.ranks r steps) (sym these)
-      (subst (λ (s : ℕ). IsSmall Buffered program job.ranks job.runs s) (sym those) is)));
+  masks = λ _ is. absurd (no is);
+  only = λ _ is. absurd (no is);
+  small = λ is. absurd (no_small (subst (λ (r : ℕ). IsSmall mode program job.ranks r steps) (sym these)
+      (subst (λ (s : ℕ). IsSmall mode program job.ranks job.runs s) (sym those) is)));
   stopped = λ _ not. (let e : true ≡ false = sym closed.0 ∙ not in absurd cc);
-  beyond = subst (λ (s : ℕ). found.out_of_steps ≡ true → GoesBeyond Buffered program job.ranks s) those beyond;
+  beyond = subst (λ (s : ℕ). found.out_of_steps ≡ true → GoesBeyond mode program job.ranks s) those beyond;
   distinct = distinct;
   few_runs = subst (λ (r : ℕ). found.runs ≤ r) these few_runs;
 }
@@ -99,7 +99,7 @@ ends_found_by program job before found runs steps these those stopped small all 
     no : found.complete ≡ true → ⊥
     no is = (let e : true ≡ false = sym is ∙ closed.1 in absurd cc)
 
-    no_small : IsSmall Buffered program job.ranks runs steps → ⊥
+    no_small : IsSmall mode program job.ranks runs steps → ⊥
     no_small is = (let e : true ≡ false = sym (small is) ∙ stopped in absurd cc)
 
 -- the text of what was found is printed where it is asked for
@@ -126,7 +126,7 @@ summary_printed lines program job found told out is text =
 
 -- so is the object of JSON
 pub json_printed : (lines : List ℕ) (program : ProgramValue) (job : ExploreJob) (found : ExploredValue) (told : Safety) (out : List ℕ)
-    → job.form ≡ form.Json → IsMarkedObject lines program job.ranks found told out → IsPrinted lines program job found told out
+    → job.form ≡ form.Json → IsMarkedObject job.synchronous lines program job.ranks found told out → IsPrinted lines program job found told out
 json_printed lines program job found told out is text =
     record {
       text = λ other. (let e : form.Json ≡ form.Text = sym is ∙ other in absurd cc);
@@ -137,19 +137,19 @@ json_printed lines program job found told out is text =
 
 -- the events of the outcome that is named are printed
 pub events_printed : (lines : List ℕ) (program : ProgramValue) (job : ExploreJob) (found : ExploredValue) (told : Safety) (out : List ℕ) (number : ℕ)
-    → job.form ≡ form.Events number → PlaysOutcome program job.ranks found.outcomes number out → IsPrinted lines program job found told out
+    → job.form ≡ form.Events number → PlaysOutcome (mode_of job.synchronous) program job.ranks found.outcomes number out → IsPrinted lines program job found told out
 events_printed lines program job found told out number is played = record {
   text = λ other. (let e : form.Events number ≡ form.Text = sym is ∙ other in absurd cc);
   summary = λ other. (let e : form.Events number ≡ form.Summary = sym is ∙ other in absurd cc);
   json = λ other. (let e : form.Events number ≡ form.Json = sym is ∙ other in absurd cc);
   events = λ another other. let e : form.Events number ≡ form.Events another = sym is ∙ other in
       let same : number ≡ another = cc in
-      subst (λ (n : ℕ). PlaysOutcome program job.ranks found.outcomes n out) same played;
+      subst (λ (n : ℕ). PlaysOutcome (mode_of job.synchronous) program job.ranks found.outcomes n out) same played;
 }
 
 -- what a search of a telling program says
 pub of_telling : (what : Telling) (text : List ℕ) (program : ProgramValue) (lines : List ℕ) (job : ExploreJob) (found : ExploredValue) (told : Determinism)
-    → IsTelling what text program lines → IsFoundBy program job found → IsKnown program lines job.ranks found told → IsToldOf what text job told
+    → IsTelling what text program lines → IsFoundBy program Buffered job found → IsKnown program lines job.ranks found told → IsToldOf what text job told
 of_telling what text program lines job found told is searched told_of = IsToldOf.searched program lines found is searched told_of
 
 -- sends and receptions aren't looked for
@@ -175,7 +175,7 @@ told_text text job found sends receptions old middle new some of_sends of_recept
 
 -- what was found, printed with whether the program is safe and its status, is an answer
 pub is_search_answer : (text lines : List ℕ) (program : ProgramValue) (job : ExploreJob) (found : ExploredValue) (told : Safety) (before out : List ℕ)
-    (status : ℕ) → IsFoundBy program job found → IsSafetyOf text lines program job found told → IsPrinted lines program job found told before
+    (status : ℕ) → IsFoundBy program (mode_of job.synchronous) job found → IsSafetyOf lines program job found told → IsPrinted lines program job found told before
     → (behind : List ℕ) × IsDeterminismText text job found behind × (out ≡ before ++ behind)
     → HasSearchStatus found status → IsSearchAnswer text lines program job out status
 is_search_answer text lines program job found told before out status searched safety printed determinism ended = record {
@@ -191,52 +191,40 @@ is_search_answer text lines program job found told before out status searched sa
   ended = ended;
 }
 
--- an answer of what is searched of a text that the file holds
+-- an answer of the program of a text that the file holds
 pub is_explore_answer : (holds : List ℕ → Type 0) (job : ExploreJob) (text lines : List ℕ) (program : ProgramValue) (out : List ℕ) (status : ℕ)
-    → holds text → IsSearchedOf job.synchronous text program lines → IsSearchAnswer text lines program job out status → IsExploreAnswer holds job out status
+    → holds text → IsLinedOf text program lines → IsSearchAnswer text lines program job out status → IsExploreAnswer holds job out status
 is_explore_answer holds job text lines program out status held searched answer =
     record { text = text; held = held; program = program; lines = lines; searched = searched; answer = answer }
 
 -- a search of synchronous runs says itself whether the program is safe
-pub is_itself : (text lines : List ℕ) (program : ProgramValue) (job : ExploreJob) (found : ExploredValue) (told : Safety) → job.synchronous ≡ true
-    → IsVerdict lines program job.ranks found told → IsSafetyOf text lines program job found told
-is_itself text lines program job found told is verdict = record {
+pub is_itself : (lines : List ℕ) (program : ProgramValue) (job : ExploreJob) (found : ExploredValue) (told : Safety) → job.synchronous ≡ true
+    → IsVerdict lines program job.ranks found told → IsSafetyOf lines program job found told
+is_itself lines program job found told is verdict = record {
   itself = λ _. verdict;
   untold = λ other. (let e : true ≡ false = sym is ∙ other in absurd cc);
   second = λ other. (let e : true ≡ false = sym is ∙ other in absurd cc);
 }
 
 -- no second search is needed
-pub is_untold : (text lines : List ℕ) (program : ProgramValue) (job : ExploreJob) (found : ExploredValue) → job.synchronous ≡ false
-    → needs_second job program found ≡ false → IsSafetyOf text lines program job found safety.Untold
-is_untold text lines program job found is none = record {
+pub is_untold : (lines : List ℕ) (program : ProgramValue) (job : ExploreJob) (found : ExploredValue) → job.synchronous ≡ false
+    → needs_second job program found ≡ false → IsSafetyOf lines program job found safety.Untold
+is_untold lines program job found is none = record {
   itself = λ other. (let e : false ≡ true = sym is ∙ other in absurd cc);
   untold = λ _ _. refl;
   second = λ _ other. (let e : false ≡ true = sym none ∙ other in absurd cc);
 }
 
 -- a second one was made
-pub is_second : (text lines : List ℕ) (program : ProgramValue) (job : ExploreJob) (found : ExploredValue) (told : Safety) → job.synchronous ≡ false
-    → needs_second job program found ≡ true → IsSecond text job told → IsSafetyOf text lines program job found told
-is_second text lines program job found told is needed second = record {
+pub is_second : (lines : List ℕ) (program : ProgramValue) (job : ExploreJob) (found : ExploredValue) (told : Safety) → job.synchronous ≡ false
+    → needs_second job program found ≡ true → IsSecond lines program job told → IsSafetyOf lines program job found told
+is_second lines program job found told is needed second = record {
   itself = λ other. (let e : false ≡ true = sym is ∙ other in absurd cc);
   untold = λ _ other. (let e : true ≡ false = sym needed ∙ other in absurd cc);
   second = λ _ _. second;
 }
 
--- what is said if a send computes its tag, so that there is no acknowledged program
-pub of_computed : (text : List ℕ) (job : ExploreJob) → HasComputedTag text → IsSecond text job (safety.Unknown unknown.ComputedTag)
-of_computed text job why = IsSecond.computed why
-
--- if that passes a limit of texts
-pub of_limits : (text : List ℕ) (job : ExploreJob) → IsPastLimits text → IsSecond text job (safety.Unknown unknown.PastLimits)
-of_limits text job why = IsSecond.past why
-
--- if the text has a fault
-pub of_fault : (text : List ℕ) (job : ExploreJob) (fault : ProgramFault) → IsFaultOf text fault.line fault.kind → IsSecond text job safety.Untold
-of_fault text job fault is = IsSecond.faulty is
-
--- and what is said of a search of it
-pub of_second : (text lines : List ℕ) (program : ProgramValue) (job : ExploreJob) (found : ExploredValue) (told : Safety) → IsSynchronousOf text program lines
-    → IsFoundBy program job found → IsVerdict lines program job.ranks found told → IsSecond text job told
-of_second text lines program job found told acknowledged searched verdict = IsSecond.searched program lines found acknowledged searched verdict
+-- and what a second search says
+pub of_second : (lines : List ℕ) (program : ProgramValue) (job : ExploreJob) (found : ExploredValue) (told : Safety)
+    → IsFoundBy program Synchronous job found → IsVerdict lines program job.ranks found told → IsSecond lines program job told
+of_second lines program job found told searched verdict = record { found = found; searched = searched; verdict = verdict }

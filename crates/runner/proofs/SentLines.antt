@@ -11,7 +11,7 @@ use Rattle.run_shown.specs.Trace.Places.{AreFound}
 use Rattle.run_shown.specs.declared.trace.place.Place.{Place}
 use Rattle.runner.specs.SentLines.{AreLinedUpTo, AreListed, AreListedUpTo, AreSentAt, HaveLines, sent_at, sent_to, unlined, with_lines}
 use Rattle.runner.specs.declared.explored.lined.LinedLeftover.{LinedLeftover}
-use Rattle.explore.specs.declared.send_mode.SendMode.TheVariants.{Buffered}
+use Rattle.explore.specs.declared.send_mode.SendMode.{SendMode}
 
 -- nothing was left
 pub none_sent : (program : ProgramValue) (n machines : ℕ) (lines : List ℕ) (run : List Passed) (left : List Leftover) (lined : List LinedLeftover)
@@ -38,39 +38,39 @@ all_sent program n machines rank lines run acts left messages places positions f
     (sent ∙ ap (join_below (sent_to n (reverse run) places left)) all) (told ∙ ap (λ m. with_lines lines found m) these ∙ ap (λ ps. with_lines lines ps left) those)
 
 -- no run is made again
-pub unknown_lines : (program : ProgramValue) (n : ℕ) (lines : List ℕ) (outcome : List RankOutcome) (left : List Leftover) (lined : List LinedLeftover)
-    → lined ≡ unlined left → HaveLines program n lines outcome left lined
-unknown_lines program n lines outcome left lined is = HaveLines.unknown is
+pub unknown_lines : (mode : SendMode) (program : ProgramValue) (n : ℕ) (lines : List ℕ) (outcome : List RankOutcome) (left : List Leftover) (lined : List LinedLeftover)
+    → lined ≡ unlined left → HaveLines mode program n lines outcome left lined
+unknown_lines mode program n lines outcome left lined is = HaveLines.unknown is
 
 -- one is
-pub known_lines : (program : ProgramValue) (n : ℕ) (lines : List ℕ) (outcome : List RankOutcome) (left : List Leftover) (run : List Passed)
-    (lined : List LinedLeftover) → IsEndingOf Buffered (start_of program n) n run (record { ranks = outcome; left = left })
-    → AreSentAt program n lines run lined → HaveLines program n lines outcome left lined
-known_lines program n lines outcome left run lined ends sent = HaveLines.known run ends sent
+pub known_lines : (mode : SendMode) (program : ProgramValue) (n : ℕ) (lines : List ℕ) (outcome : List RankOutcome) (left : List Leftover) (run : List Passed)
+    (lined : List LinedLeftover) → IsEndingOf mode (start_of program n) n run (record { ranks = outcome; left = left })
+    → AreSentAt program n lines run lined → HaveLines mode program n lines outcome left lined
+known_lines mode program n lines outcome left run lined ends sent = HaveLines.known run ends sent
 
 -- of no list
-pub none_listed : (program : ProgramValue) (n : ℕ) (lines : List ℕ) (outcome : List RankOutcome) (listed : List (List Leftover))
-    (lined : List (List LinedLeftover)) → lined ≡ [] → AreListedUpTo program n lines outcome listed 0 lined
-none_listed program n lines outcome listed lined empty = subst (AreListedUpTo program n lines outcome listed 0) (sym empty) AreListedUpTo.none
+pub none_listed : (mode : SendMode) (program : ProgramValue) (n : ℕ) (lines : List ℕ) (outcome : List RankOutcome) (listed : List (List Leftover))
+    (lined : List (List LinedLeftover)) → lined ≡ [] → AreListedUpTo mode program n lines outcome listed 0 lined
+none_listed mode program n lines outcome listed lined empty = subst (AreListedUpTo mode program n lines outcome listed 0) (sym empty) AreListedUpTo.none
 
 -- of one list more
-pub one_more_listed : (program : ProgramValue) (n : ℕ) (lines : List ℕ) (outcome : List RankOutcome) (listed : List (List Leftover)) (count : ℕ)
+pub one_more_listed : (mode : SendMode) (program : ProgramValue) (n : ℕ) (lines : List ℕ) (outcome : List RankOutcome) (listed : List (List Leftover)) (count : ℕ)
     (before after : List (List LinedLeftover)) (left : List Leftover) (told : List LinedLeftover)
-    → AreListedUpTo program n lines outcome listed count before → slice_get listed count ≡ Some left
-    → HaveLines program n lines outcome left told → after ≡ before ++ told ∷ [] → AreListedUpTo program n lines outcome listed (count + 1) after
-one_more_listed program n lines outcome listed count before after left told so_far there have added =
-    subst (AreListedUpTo program n lines outcome listed (count + 1)) (sym added) (AreListedUpTo.more left told so_far there have)
+    → AreListedUpTo mode program n lines outcome listed count before → slice_get listed count ≡ Some left
+    → HaveLines mode program n lines outcome left told → after ≡ before ++ told ∷ [] → AreListedUpTo mode program n lines outcome listed (count + 1) after
+one_more_listed mode program n lines outcome listed count before after left told so_far there have added =
+    subst (AreListedUpTo mode program n lines outcome listed (count + 1)) (sym added) (AreListedUpTo.more left told so_far there have)
 
 -- of no outcome
-pub none_lined : (program : ProgramValue) (n : ℕ) (lines : List ℕ) (outcomes : List (List RankOutcome)) (left : List (List (List Leftover)))
-    (lined : List (List (List LinedLeftover))) → lined ≡ [] → AreLinedUpTo program n lines outcomes left 0 lined
-none_lined program n lines outcomes left lined empty = subst (AreLinedUpTo program n lines outcomes left 0) (sym empty) AreLinedUpTo.none
+pub none_lined : (mode : SendMode) (program : ProgramValue) (n : ℕ) (lines : List ℕ) (outcomes : List (List RankOutcome)) (left : List (List (List Leftover)))
+    (lined : List (List (List LinedLeftover))) → lined ≡ [] → AreLinedUpTo mode program n lines outcomes left 0 lined
+none_lined mode program n lines outcomes left lined empty = subst (AreLinedUpTo mode program n lines outcomes left 0) (sym empty) AreLinedUpTo.none
 
 -- of one outcome more
-pub one_more_lined : (program : ProgramValue) (n : ℕ) (lines : List ℕ) (outcomes : List (List RankOutcome)) (left : List (List (List Leftover)))
+pub one_more_lined : (mode : SendMode) (program : ProgramValue) (n : ℕ) (lines : List ℕ) (outcomes : List (List RankOutcome)) (left : List (List (List Leftover)))
     (count : ℕ) (before after : List (List (List LinedLeftover))) (outcome : List RankOutcome) (listed : List (List Leftover))
-    (told : List (List LinedLeftover)) → AreLinedUpTo program n lines outcomes left count before → slice_get outcomes count ≡ Some outcome
-    → slice_get left count ≡ Some listed → AreListed program n lines outcome listed told → after ≡ before ++ told ∷ []
-    → AreLinedUpTo program n lines outcomes left (count + 1) after
-one_more_lined program n lines outcomes left count before after outcome listed told so_far there listed_there have added =
-    subst (AreLinedUpTo program n lines outcomes left (count + 1)) (sym added) (AreLinedUpTo.more outcome listed told so_far there listed_there have)
+    (told : List (List LinedLeftover)) → AreLinedUpTo mode program n lines outcomes left count before → slice_get outcomes count ≡ Some outcome
+    → slice_get left count ≡ Some listed → AreListed mode program n lines outcome listed told → after ≡ before ++ told ∷ []
+    → AreLinedUpTo mode program n lines outcomes left (count + 1) after
+one_more_lined mode program n lines outcomes left count before after outcome listed told so_far there listed_there have added =
+    subst (AreLinedUpTo mode program n lines outcomes left (count + 1)) (sym added) (AreLinedUpTo.more outcome listed told so_far there listed_there have)

@@ -7,10 +7,10 @@ use Rattle.explore.specs.Searching.{IsSimOf}
 use Rattle.rank_language.specs.Program.{ProgramValue}
 use Rattle.runner.specs.Waits.{AreWaits, IsEmpty, WaitWith}
 use Rattle.runner.specs.declared.explored.safety.WaitingRanks.{WaitingRanks}
-use Rattle.explore.specs.declared.send_mode.SendMode.TheVariants.{Buffered}
+use Rattle.explore.specs.declared.send_mode.SendMode.TheVariants.{Synchronous}
 
 -- who waits after it does so in a run with the outcome
 pub wait_with : (program : ProgramValue) (n : ℕ) (lines : List ℕ) (outcome : List RankOutcome) (run : SimValue) (waits : WaitingRanks)
-    → IsOutcomeUnder Buffered (start_of program n) n run.run outcome → IsSimOf program n run → AreWaits lines run waits
+    → IsOutcomeUnder Synchronous (start_of program n) n run.run outcome → IsSimOf program n run → AreWaits lines run waits
     → WaitWith program n lines outcome waits ⊎ IsEmpty waits
 wait_with program n lines outcome run waits ended made wait = inl (record { run = run; made = made; ended = ended; wait = wait })

@@ -1,7 +1,9 @@
 -- How one outcome after another is written.
 use Rattle.std.proofs.Common.{◌≡◌, ℕ, ◌+◌, Bool, true, List, [], ◌++◌, Option, Some, codes, length, slice_get, slice_index_or, refl, ap, subst, sym, ◌∙◌}
 use Rattle.std.proofs.lemmas.List.{append-nil, length-map}
+use Rattle.explore.specs.Cycles.{MayGoOnForEver}
 use Rattle.explore.specs.declared.moves.Noted.{Noted}
+use Rattle.explore.specs.declared.send_mode.SendMode.{SendMode}
 use Rattle.explore.specs.Explored.{ExploredValue, FoundOutcomeValue, rank_outcomes}
 use Rattle.explore.specs.Shown.{AreMarked}
 use Rattle.explore.proofs.SeenOf.{seen_at}
@@ -9,6 +11,7 @@ use Rattle.audit.specs.FinalRuns.Maximal.{RankOutcome}
 use Rattle.rank_language.specs.Program.{ProgramValue}
 use Rattle.runner.specs.LeftText.{shorts_text}
 use Rattle.runner.specs.Meanings.{meaning_text}
+use Rattle.runner.specs.Modes.{mode_of}
 use Rattle.runner.specs.OutcomesText.{AreWritten, GoesOnAt, IsExploredText, IsMarkedObject, IsMarkedSummary, IsMarkedText, IsSafe, IsSafeText, IsSummary, one_text}
 use Rattle.runner.specs.Partings.{ArePartings}
 use Rattle.runner.specs.Safety.{safety_behind}
@@ -18,7 +21,6 @@ use Rattle.runner.specs.declared.explored.lined.LinedLeftover.{LinedLeftover}
 use Rattle.runner.specs.declared.explored.parting.Parted.{Parted}
 use Rattle.runner.specs.declared.explored.safety.Safety.{Safety}
 use Rattle.run_events.specs.Halting.{AllHalt}
-use Rattle.explore.specs.declared.send_mode.SendMode.TheVariants.{Buffered}
 
 -- in an empty text none is written
 pub none_written : (outcomes : List (List RankOutcome)) (choices : List (List Noted)) (left : List (List (List LinedLeftover))) (lines text : List ℕ)
@@ -49,32 +51,37 @@ not_safe_text synchronous found before after not same = ([], IsSafeText.not_safe
 -- each outcome, whether the program is safe, and what the outcomes mean
 pub is_explored_text : (synchronous : Bool) (found : ExploredValue) (left : List (List (List LinedLeftover))) (marks : List (Option Bool))
     (cycle : List ℕ) (runs : ℕ) (lines outcomes between text : List ℕ) → AreWritten found.outcomes found.choices left lines (length found.outcomes) outcomes
-    → (safe : List ℕ) × IsSafeText synchronous found safe × (between ≡ outcomes ++ safe) → text ≡ between ++ meaning_text found marks cycle runs
+    → (safe : List ℕ) × IsSafeText synchronous found safe × (between ≡ outcomes ++ safe) → text ≡ between ++ meaning_text synchronous found marks cycle runs
     → IsExploredText synchronous found left marks cycle runs lines text
 is_explored_text synchronous found left marks cycle runs lines outcomes between text each safe whole = record {
   outcomes = outcomes;
   each = each;
   safe = safe.0;
   is_safe = safe.1;
-  whole = whole ∙ ap (λ z. z ++ meaning_text found marks cycle runs) safe.2;
+  whole = whole ∙ ap (λ z. z ++ meaning_text synchronous found marks cycle runs) safe.2;
 }
 
 -- behind some lines whether the program is safe, and what the outcomes mean
 pub is_summary : (synchronous : Bool) (found : ExploredValue) (left : List (List (List LinedLeftover))) (marks : List (Option Bool))
     (cycle : List ℕ) (runs : ℕ) (races shorts between text : List ℕ) → shorts ≡ races ++ shorts_text 1 left → (safe : List ℕ) × IsSafeText synchronous found safe × (between ≡ shorts ++ safe)
-    → text ≡ between ++ meaning_text found marks cycle runs → IsSummary synchronous found left marks cycle runs text
+    → text ≡ between ++ meaning_text synchronous found marks cycle runs → IsSummary synchronous found left marks cycle runs text
 is_summary synchronous found left marks cycle runs races shorts between text listed safe whole = record {
   races = races;
   safe = safe.0;
   is_safe = safe.1;
-  whole = whole ∙ ap (λ z. z ++ meaning_text found marks cycle runs) (safe.2 ∙ ap (λ z. z ++ safe.0) listed);
+  whole = whole ∙ ap (λ z. z ++ meaning_text synchronous found marks cycle runs) (safe.2 ∙ ap (λ z. z ++ safe.0) listed);
 }
+
+-- ranks may go on for ever by the mode that is given, which is this one
+pub goes_on_at : (mode given : SendMode) (program : ProgramValue) (ranks : ℕ) (cycle : List ℕ) → MayGoOnForEver given program ranks → given ≡ mode
+    → GoesOnAt mode program ranks cycle
+goes_on_at mode given program ranks cycle endless same = λ _. subst (λ m. MayGoOnForEver m program ranks) same endless
 
 -- the outcomes, with their own marks, and behind them whether the program is safe
 pub is_marked : (synchronous : Bool) (lines : List ℕ) (program : ProgramValue) (ranks : ℕ) (found : ExploredValue) (told : Safety)
     (left : List (List (List LinedLeftover))) (marks : List (Option Bool)) (cycle : List ℕ) (runs : ℕ) (before text : List ℕ)
-    → AreLined program ranks lines found.outcomes found.left left → AreMarked Buffered program ranks found.outcomes found.choices marks
-    → GoesOnAt program ranks cycle → IsExploredText synchronous found left marks cycle runs lines before → text ≡ before ++ safety_behind synchronous told
+    → AreLined (mode_of synchronous) program ranks lines found.outcomes found.left left → AreMarked (mode_of synchronous) program ranks found.outcomes found.choices marks
+    → GoesOnAt (mode_of synchronous) program ranks cycle → IsExploredText synchronous found left marks cycle runs lines before → text ≡ before ++ safety_behind synchronous told
     → IsMarkedText synchronous lines program ranks found told runs text
 is_marked synchronous lines program ranks found told left marks cycle runs before text lined marked goes_on printed whole = record {
   marks = marks;
@@ -89,18 +96,18 @@ is_marked synchronous lines program ranks found told left marks cycle runs befor
 }
 
 -- so they are as an object
-pub is_marked_object : (lines : List ℕ) (program : ProgramValue) (ranks : ℕ) (found : ExploredValue) (told : Safety)
+pub is_marked_object : (synchronous : Bool) (lines : List ℕ) (program : ProgramValue) (ranks : ℕ) (found : ExploredValue) (told : Safety)
     (left : List (List (List LinedLeftover))) (marks : List (Option Bool)) (text : List ℕ)
-    → AreLined program ranks lines found.outcomes found.left left → AreMarked Buffered program ranks found.outcomes found.choices marks
-    → IsSearchObject found left marks lines told text → IsMarkedObject lines program ranks found told text
-is_marked_object lines program ranks found told left marks text lined marked written =
+    → AreLined (mode_of synchronous) program ranks lines found.outcomes found.left left → AreMarked (mode_of synchronous) program ranks found.outcomes found.choices marks
+    → IsSearchObject found left marks lines told text → IsMarkedObject synchronous lines program ranks found told text
+is_marked_object synchronous lines program ranks found told left marks text lined marked written =
     record { marks = marks; marked = marked; left = left; lined = lined; written = written }
 
 -- in short too
 pub is_marked_summary : (synchronous : Bool) (lines : List ℕ) (program : ProgramValue) (ranks : ℕ) (found : ExploredValue) (told : Safety)
     (left : List (List (List LinedLeftover))) (marks : List (Option Bool)) (cycle : List ℕ) (runs : ℕ) (before text : List ℕ)
-    → AreLined program ranks lines found.outcomes found.left left → AreMarked Buffered program ranks found.outcomes found.choices marks
-    → GoesOnAt program ranks cycle → IsSummary synchronous found left marks cycle runs before → text ≡ before ++ safety_behind synchronous told
+    → AreLined (mode_of synchronous) program ranks lines found.outcomes found.left left → AreMarked (mode_of synchronous) program ranks found.outcomes found.choices marks
+    → GoesOnAt (mode_of synchronous) program ranks cycle → IsSummary synchronous found left marks cycle runs before → text ≡ before ++ safety_behind synchronous told
     → IsMarkedSummary synchronous lines program ranks found told runs text
 is_marked_summary synchronous lines program ranks found told left marks cycle runs before text lined marked goes_on printed whole = record {
   marks = marks;

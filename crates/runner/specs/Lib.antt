@@ -12,6 +12,7 @@ pub mod Traces
 pub mod Partings
 pub mod LeftText
 pub mod SentLines
+pub mod Modes
 pub mod Meanings
 pub mod Waits
 pub mod Safety

@@ -80,11 +80,21 @@ abbrev pub marks_text : ℕ → List (Option Bool) → List ℕ
 marks_text number [] = []
 marks_text number (mark ∷ marks) = mark_text number mark ++ marks_text (number + 1) marks
 
--- the lines that say that there is one outcome, if it is certain, and what crashes change then
-abbrev pub only_text : ExploredValue → List ℕ
-only_text found = if found.complete && (length found.outcomes == 1)
-    then codes "# one outcome: whatever the order, this program prints this\n# whatever crashes, each rank prints this, or a beginning of it\n"
-    else []
+-- what crashes change where there is one outcome; of synchronous runs nothing is said of crashes
+abbrev pub crashes_text : Bool → List ℕ
+crashes_text synchronous = if synchronous then [] else codes "# whatever crashes, each rank prints this, or a beginning of it\n"
+
+-- that there is one outcome
+unfoldable pub lone_words : List ℕ
+lone_words = codes "# one outcome: whatever the order, this program prints this\n"
+
+-- the lines that say so, and what crashes change then
+abbrev pub lone_lines : Bool → List ℕ
+lone_lines synchronous = lone_words ++ crashes_text synchronous
+
+-- these lines, if it is certain that there is one outcome
+abbrev pub only_text : Bool → ExploredValue → List ℕ
+only_text synchronous found = if found.complete && (length found.outcomes == 1) then lone_lines synchronous else []
 
 -- the line that says that the limit of steps was reached, if it was
 abbrev pub steps_text : ExploredValue → List ℕ
@@ -135,8 +145,8 @@ abbrev pub count_text : ExploredValue → List ℕ
 count_text found = codes "outcomes " ++ decimal (length found.outcomes) ++ codes ", runs " ++ decimal found.runs
     ++ whole_text found ++ codes "\n"
 
--- what the outcomes mean, with these marks, that were found in no more than so many runs, while a state came back at these lines, and
+-- what the outcomes of a search, of synchronous runs or of others, mean, with these marks, that were found in no more than so many runs, while a state came back at these lines, and
 -- the last line
-abbrev pub meaning_text : ExploredValue → List (Option Bool) → List ℕ → ℕ → List ℕ
-meaning_text found marks cycle runs =
-    only_text found ++ unhalted_text 1 found.outcomes ++ marks_text 1 marks ++ states_text found ++ limits_text found cycle runs ++ count_text found
+abbrev pub meaning_text : Bool → ExploredValue → List (Option Bool) → List ℕ → ℕ → List ℕ
+meaning_text synchronous found marks cycle runs =
+    only_text synchronous found ++ unhalted_text 1 found.outcomes ++ marks_text 1 marks ++ states_text found ++ limits_text found cycle runs ++ count_text found

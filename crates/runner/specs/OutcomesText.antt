@@ -10,6 +10,7 @@ use Rattle.audit.specs.FinalRuns.Maximal.{RankOutcome}
 use Rattle.rank_language.specs.Program.{ProgramValue}
 use Rattle.runner.specs.LeftText.{listed_text, shorts_text}
 use Rattle.runner.specs.Meanings.{meaning_text}
+use Rattle.runner.specs.Modes.{mode_of}
 use Rattle.runner.specs.Partings.{ArePartings, choices_text}
 use Rattle.runner.specs.Safety.{safety_behind}
 use Rattle.runner.specs.SearchObject.{IsSearchObject}
@@ -19,7 +20,7 @@ use Rattle.runner.specs.declared.explored.lined.LinedLeftover.{LinedLeftover}
 use Rattle.runner.specs.declared.explored.parting.Parted.{Parted}
 use Rattle.runner.specs.declared.explored.safety.Safety.{Safety}
 use Rattle.run_events.specs.Halting.{AllHalt}
-use Rattle.explore.specs.declared.send_mode.SendMode.TheVariants.{Buffered}
+use Rattle.explore.specs.declared.send_mode.SendMode.{SendMode}
 
 -- the values that a rank printed, a line each
 abbrev pub values_text : ℕ → List ℤ → List ℕ
@@ -77,7 +78,7 @@ pub record IsExploredText (synchronous : Bool) (found : ExploredValue) (left : L
   pub each : AreWritten found.outcomes found.choices left lines (length found.outcomes) outcomes
   pub safe : List ℕ
   pub is_safe : IsSafeText synchronous found safe
-  pub whole : text ≡ outcomes ++ safe ++ meaning_text found marks cycle runs
+  pub whole : text ≡ outcomes ++ safe ++ meaning_text synchronous found marks cycle runs
 
 -- what is printed of it in short: some lines, and behind them what was never received, whether the
 -- program is safe, and what the outcomes mean
@@ -86,11 +87,11 @@ pub record IsSummary (synchronous : Bool) (found : ExploredValue) (left : List (
   pub races : List ℕ
   pub safe : List ℕ
   pub is_safe : IsSafeText synchronous found safe
-  pub whole : text ≡ races ++ shorts_text 1 left ++ safe ++ meaning_text found marks cycle runs
+  pub whole : text ≡ races ++ shorts_text 1 left ++ safe ++ meaning_text synchronous found marks cycle runs
 
 -- If a state came back at some lines, the program may go on for ever.
-abbrev pub GoesOnAt : ProgramValue → ℕ → List ℕ → Type 0
-GoesOnAt program ranks cycle = cycle ≢ [] → MayGoOnForEver Buffered program ranks
+abbrev pub GoesOnAt : SendMode → ProgramValue → ℕ → List ℕ → Type 0
+GoesOnAt mode program ranks cycle = cycle ≢ [] → MayGoOnForEver mode program ranks
 
 -- The outcomes of the program on so many ranks, whose statements stand on these lines, are printed
 -- with marks of their own and with the lines of what was never received, and behind them whether it is
@@ -98,12 +99,12 @@ GoesOnAt program ranks cycle = cycle ≢ [] → MayGoOnForEver Buffered program 
 pub record IsMarkedText (synchronous : Bool) (lines : List ℕ) (program : ProgramValue) (ranks : ℕ) (found : ExploredValue) (told : Safety) (runs : ℕ)
     (text : List ℕ) : Type 0 where
   pub marks : List (Option Bool)
-  pub marked : AreMarked Buffered program ranks found.outcomes found.choices marks
+  pub marked : AreMarked (mode_of synchronous) program ranks found.outcomes found.choices marks
   pub cycle : List ℕ
-  pub goes_on : GoesOnAt program ranks cycle
+  pub goes_on : GoesOnAt (mode_of synchronous) program ranks cycle
   pub before : List ℕ
   pub left : List (List (List LinedLeftover))
-  pub lined : AreLined program ranks lines found.outcomes found.left left
+  pub lined : AreLined (mode_of synchronous) program ranks lines found.outcomes found.left left
   pub printed : IsExploredText synchronous found left marks cycle runs lines before
   pub whole : text ≡ before ++ safety_behind synchronous told
 
@@ -111,21 +112,22 @@ pub record IsMarkedText (synchronous : Bool) (lines : List ℕ) (program : Progr
 pub record IsMarkedSummary (synchronous : Bool) (lines : List ℕ) (program : ProgramValue) (ranks : ℕ) (found : ExploredValue) (told : Safety) (runs : ℕ)
     (text : List ℕ) : Type 0 where
   pub marks : List (Option Bool)
-  pub marked : AreMarked Buffered program ranks found.outcomes found.choices marks
+  pub marked : AreMarked (mode_of synchronous) program ranks found.outcomes found.choices marks
   pub cycle : List ℕ
-  pub goes_on : GoesOnAt program ranks cycle
+  pub goes_on : GoesOnAt (mode_of synchronous) program ranks cycle
   pub before : List ℕ
   pub left : List (List (List LinedLeftover))
-  pub lined : AreLined program ranks lines found.outcomes found.left left
+  pub lined : AreLined (mode_of synchronous) program ranks lines found.outcomes found.left left
   pub printed : IsSummary synchronous found left marks cycle runs before
   pub whole : text ≡ before ++ safety_behind synchronous told
 
 -- The outcomes of the program on so many ranks, whose statements stand on these lines, are an object
 -- of JSON, with marks of their own and with the lines of what was never received. Nothing is said of
 -- the races.
-pub record IsMarkedObject (lines : List ℕ) (program : ProgramValue) (ranks : ℕ) (found : ExploredValue) (told : Safety) (text : List ℕ) : Type 0 where
+pub record IsMarkedObject (synchronous : Bool) (lines : List ℕ) (program : ProgramValue) (ranks : ℕ) (found : ExploredValue) (told : Safety)
+    (text : List ℕ) : Type 0 where
   pub marks : List (Option Bool)
-  pub marked : AreMarked Buffered program ranks found.outcomes found.choices marks
+  pub marked : AreMarked (mode_of synchronous) program ranks found.outcomes found.choices marks
   pub left : List (List (List LinedLeftover))
-  pub lined : AreLined program ranks lines found.outcomes found.left left
+  pub lined : AreLined (mode_of synchronous) program ranks lines found.outcomes found.left left
   pub written : IsSearchObject found left marks lines told text

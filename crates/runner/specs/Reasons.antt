@@ -35,9 +35,6 @@ use Rattle.runner.specs.declared.commands.refusal.Refusal.{Refusal}
 use Rattle.runner.specs.declared.commands.refusal.Refusal.TheVariants as refusal
 use Rattle.runner.specs.declared.commands.world.WorldQuestion.{WorldQuestion}
 use Rattle.runner.specs.declared.commands.world.WorldQuestion.TheVariants as wanted
-use Rattle.synchronous.specs.Synchronous.{HasComputedTag, IsPastLimits}
-use Rattle.synchronous.specs.declared.fault.SynchronousFault.{SynchronousFault}
-use Rattle.synchronous.specs.declared.fault.SynchronousFault.TheVariants as synchronous
 use Rattle.world_model.specs.EventsText.Events.{events_of}
 use Rattle.bare_world.specs.declared.event.WorldEvent.{WorldEvent}
 use Rattle.bare_world.specs.World.{WorldValue}
@@ -51,13 +48,6 @@ use Rattle.world_model.specs.declared.events_text.fault.EventsFaultKind.{EventsF
 abbrev pub of_parse : ParseFault → Refusal
 of_parse (parse.Fault fault) = refusal.Program fault
 of_parse parse.Memory = refusal.Memory
-
--- why a text has no acknowledged program
-abbrev pub of_synchronous : SynchronousFault → Refusal
-of_synchronous (synchronous.Fault fault) = refusal.Program fault
-of_synchronous synchronous.ComputedTag = refusal.ComputedTag
-of_synchronous synchronous.PastLimits = refusal.PastLimits
-of_synchronous synchronous.Memory = refusal.Memory
 
 -- why a text is no script
 abbrev pub of_script : ScriptParseFault → Refusal
@@ -226,24 +216,9 @@ pub data IsExplainRefusal (job : ExplainJob) (refused : Refusal) : Type 0 where
   explain_script : IsUnreadBy job.script refused → IsExplainRefusal job refused
   explain_events : IsUnreadBy job.events refused → IsExplainRefusal job refused
 
--- A text that the file holds has no acknowledged program, since a send computes its tag, or since it
--- passes a limit of texts.
-pub data HasNoAcknowledged (holds : List ℕ → Type 0) (refused : Refusal) : Type 0 where
-  computed : (text : List ℕ) → holds text → HasComputedTag text → refused ≡ refusal.ComputedTag → HasNoAcknowledged holds refused
-  past : (text : List ℕ) → holds text → IsPastLimits text → refused ≡ refusal.PastLimits → HasNoAcknowledged holds refused
-
--- Nothing is searched of this text, since it is no program or has no acknowledged one.
-abbrev pub IsUnsearched : Bool → List ℕ → SynchronousFault → Type 0
-IsUnsearched asked text (synchronous.Fault fault) = IsFaultOf text fault.line fault.kind
-IsUnsearched asked text synchronous.ComputedTag = (asked ≡ true) × HasComputedTag text
-IsUnsearched asked text synchronous.PastLimits = (asked ≡ true) × IsPastLimits text
-IsUnsearched asked text synchronous.Memory = Unit {0}
-
--- A search: its program isn't read; or its sends are to be synchronous, and it can't be acknowledged;
--- or an outcome's events are asked for, and there are none.
+-- A search: its program isn't read, or an outcome's events are asked for, and there are none.
 pub data IsSearchRefusal (holds : List ℕ → List ℕ → Type 0) (job : ExploreJob) (refused : Refusal) : Type 0 where
   search_program : IsProgramRefusal holds job.program refused → IsSearchRefusal holds job refused
-  search_synchronous : job.synchronous ≡ true → HasNoAcknowledged (holds job.program.now) refused → IsSearchRefusal holds job refused
   search_outcome : HasNoOutcomeOf job refused → IsSearchRefusal holds job refused
 
 -- A judged outcome: its program or its text isn't read.

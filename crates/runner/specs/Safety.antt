@@ -1,6 +1,6 @@
 -- Whether a program is safe: it completes without buffering (MPI 1.1, section 3.5), so also if each
--- send waits until its message is received (section 3.4). This is looked for among the runs of the
--- acknowledged program (docs/MPI.md, "Safe programs").
+-- send waits until its message is received (section 3.4). This is looked for among its synchronous
+-- runs (docs/MPI.md, "Safe programs").
 use Rattle.std.specs.Prelude.{◌≡◌, ℕ, Bool, true, false, ◌==◌, ◌&&◌, if◌then◌else◌, List, [], ◌++◌, Option, Some, None, length, map, codes}
 use Rattle.std.specs.List.{filter_map, list_any}
 use Rattle.command_line.specs.declared.exploring.ExploreForm.{ExploreForm}
@@ -25,7 +25,7 @@ pub record IsHalting (found : ExploredValue) : Type 0 where
   pub complete : found.complete ≡ true
   pub halts : AllHalt found.outcomes
 
--- What is said after a search of the acknowledged program. It is safe if and only if that is complete
+-- What is said after a search of the synchronous runs. It is safe if and only if that is complete
 -- and each rank halts in each outcome. It isn't if and only if in a run that was found a message of a
 -- send was never received, as its rank waits in that send for ever.
 pub data IsVerdict (lines : List ℕ) (program : ProgramValue) (n : ℕ) (found : ExploredValue) : Safety → Type 0 where
@@ -78,8 +78,6 @@ needs_second job program found = found.complete && is_told job.form && has_send 
 
 -- why it isn't known
 abbrev pub unknown_text : Unknown → List ℕ
-unknown_text unknown.ComputedTag = codes "# not known whether it is safe: a send computes its tag\n"
-unknown_text unknown.PastLimits = codes "# not known whether it is safe: with acknowledgements it passes a limit of texts\n"
 unknown_text unknown.Stopped = codes "# not known whether it is safe: the search without buffers came to a limit\n"
 unknown_text unknown.Unhalted = codes "# not known whether it is safe: a rank doesn't halt, though each message sent is received\n"
 

@@ -14,7 +14,7 @@ use Rattle.rank_machine.specs.Acts.{Act, sends, takes, hits, misses, prints}
 use Rattle.run_shown.specs.Trace.Places.{AreFound}
 use Rattle.run_shown.specs.declared.trace.place.Place.{Place}
 use Rattle.runner.specs.declared.explored.lined.LinedLeftover.{LinedLeftover}
-use Rattle.explore.specs.declared.send_mode.SendMode.TheVariants.{Buffered}
+use Rattle.explore.specs.declared.send_mode.SendMode.{SendMode}
 
 -- the sends of one rank to another, each with the position of its statement, and None for each whose
 -- message was taken
@@ -105,33 +105,33 @@ pub data AreSentAt (program : ProgramValue) (n : ℕ) (lines : List ℕ) (run : 
 
 -- These messages have no lines, or in some run that has the outcome they were never received, and were
 -- sent at these lines.
-pub data HaveLines (program : ProgramValue) (n : ℕ) (lines : List ℕ) (outcome : List RankOutcome) (left : List Leftover) (lined : List LinedLeftover)
+pub data HaveLines (mode : SendMode) (program : ProgramValue) (n : ℕ) (lines : List ℕ) (outcome : List RankOutcome) (left : List Leftover) (lined : List LinedLeftover)
     : Type 0 where
-  unknown : lined ≡ unlined left → HaveLines program n lines outcome left lined
-  known : (run : List Passed) → IsEndingOf Buffered (start_of program n) n run (record { ranks = outcome; left = left })
-      → AreSentAt program n lines run lined → HaveLines program n lines outcome left lined
+  unknown : lined ≡ unlined left → HaveLines mode program n lines outcome left lined
+  known : (run : List Passed) → IsEndingOf mode (start_of program n) n run (record { ranks = outcome; left = left })
+      → AreSentAt program n lines run lined → HaveLines mode program n lines outcome left lined
 
 -- so it is of each of the first so many of these lists, which are those of an outcome
-pub data AreListedUpTo (program : ProgramValue) (n : ℕ) (lines : List ℕ) (outcome : List RankOutcome) (listed : List (List Leftover))
+pub data AreListedUpTo (mode : SendMode) (program : ProgramValue) (n : ℕ) (lines : List ℕ) (outcome : List RankOutcome) (listed : List (List Leftover))
     : ℕ → List (List LinedLeftover) → Type 0 where
-  none : AreListedUpTo program n lines outcome listed 0 []
+  none : AreListedUpTo mode program n lines outcome listed 0 []
   more : {count : ℕ} {lined : List (List LinedLeftover)} (left : List Leftover) (told : List LinedLeftover)
-      → AreListedUpTo program n lines outcome listed count lined → slice_get listed count ≡ Some left
-      → HaveLines program n lines outcome left told → AreListedUpTo program n lines outcome listed (count + 1) (lined ++ told ∷ [])
+      → AreListedUpTo mode program n lines outcome listed count lined → slice_get listed count ≡ Some left
+      → HaveLines mode program n lines outcome left told → AreListedUpTo mode program n lines outcome listed (count + 1) (lined ++ told ∷ [])
 
 -- and of all
-abbrev pub AreListed : ProgramValue → ℕ → List ℕ → List RankOutcome → List (List Leftover) → List (List LinedLeftover) → Type 0
-AreListed program n lines outcome listed lined = AreListedUpTo program n lines outcome listed (length listed) lined
+abbrev pub AreListed : SendMode → ProgramValue → ℕ → List ℕ → List RankOutcome → List (List Leftover) → List (List LinedLeftover) → Type 0
+AreListed mode program n lines outcome listed lined = AreListedUpTo mode program n lines outcome listed (length listed) lined
 
 -- so it is of what is listed of each of the first so many of these outcomes
-pub data AreLinedUpTo (program : ProgramValue) (n : ℕ) (lines : List ℕ) (outcomes : List (List RankOutcome)) (left : List (List (List Leftover)))
+pub data AreLinedUpTo (mode : SendMode) (program : ProgramValue) (n : ℕ) (lines : List ℕ) (outcomes : List (List RankOutcome)) (left : List (List (List Leftover)))
     : ℕ → List (List (List LinedLeftover)) → Type 0 where
-  none : AreLinedUpTo program n lines outcomes left 0 []
+  none : AreLinedUpTo mode program n lines outcomes left 0 []
   more : {count : ℕ} {lined : List (List (List LinedLeftover))} (outcome : List RankOutcome) (listed : List (List Leftover))
-      (told : List (List LinedLeftover)) → AreLinedUpTo program n lines outcomes left count lined → slice_get outcomes count ≡ Some outcome
-      → slice_get left count ≡ Some listed → AreListed program n lines outcome listed told
-      → AreLinedUpTo program n lines outcomes left (count + 1) (lined ++ told ∷ [])
+      (told : List (List LinedLeftover)) → AreLinedUpTo mode program n lines outcomes left count lined → slice_get outcomes count ≡ Some outcome
+      → slice_get left count ≡ Some listed → AreListed mode program n lines outcome listed told
+      → AreLinedUpTo mode program n lines outcomes left (count + 1) (lined ++ told ∷ [])
 
 -- and of all
-abbrev pub AreLined : ProgramValue → ℕ → List ℕ → List (List RankOutcome) → List (List (List Leftover)) → List (List (List LinedLeftover)) → Type 0
-AreLined program n lines outcomes left lined = AreLinedUpTo program n lines outcomes left (length outcomes) lined
+abbrev pub AreLined : SendMode → ProgramValue → ℕ → List ℕ → List (List RankOutcome) → List (List (List Leftover)) → List (List (List LinedLeftover)) → Type 0
+AreLined mode program n lines outcomes left lined = AreLinedUpTo mode program n lines outcomes left (length outcomes) lined

@@ -1,6 +1,7 @@
 -- Who waits in a send for ever, if no message is buffered (MPI 1.1, section 3.4): whose message is
--- never received, in a run of the acknowledged program (docs/MPI.md, "Safe programs").
-use Rattle.std.specs.Prelude.{◌≡◌, ℕ, Bool, true, false, not, ◌==◌, ◌&&◌, ◌||◌, if◌then◌else◌, List, [], ◌∷◌, Option, Some, None, length, slice_get}
+-- never received, in a synchronous run (docs/MPI.md, "Safe programs"). The rank went past its send, and
+-- makes no step behind it.
+use Rattle.std.specs.Prelude.{◌≡◌, ℕ, Bool, true, false, not, ◌==◌, ◌&&◌, ◌||◌, ◌-◌, if◌then◌else◌, List, [], ◌∷◌, Option, Some, None, length, slice_get}
 use Rattle.std.specs.List.{list_all, list_any}
 use Rattle.audit.specs.FinalRuns.Maximal.{RankOutcome}
 use Rattle.explore.specs.Sending.{IsOutcomeUnder}
@@ -16,7 +17,7 @@ use Rattle.rank_language.specs.Program.{ProgramValue}
 use Rattle.rank_machine.specs.Machine.{MachineValue}
 use Rattle.runner.specs.declared.explored.safety.WaitingRank.{WaitingRank}
 use Rattle.runner.specs.declared.explored.safety.WaitingRanks.{WaitingRanks}
-use Rattle.explore.specs.declared.send_mode.SendMode.TheVariants.{Buffered}
+use Rattle.explore.specs.declared.send_mode.SendMode.TheVariants.{Synchronous}
 
 -- the message is of a send, not of a collective
 abbrev pub is_tag : MessageMark → Bool
@@ -39,27 +40,27 @@ is_for_another left x = not (is_tag x.mark) || (not (x.rank == x.source) && wait
 abbrev pub wait_for_each_other : List Leftover → Bool
 wait_for_each_other left = list_all (is_for_another left) left
 
--- the line on which the machine's statement stands, of these lines of statements, if it is known
-abbrev pub line_of_machine : List ℕ → Option MachineValue → Option ℕ
-line_of_machine lines None = None
-line_of_machine lines (Some machine) = slice_get lines machine.position
+-- the line of the send behind which the machine stands, of these lines of statements, if it is known
+abbrev pub line_of_send : List ℕ → Option MachineValue → Option ℕ
+line_of_send lines None = None
+line_of_send lines (Some machine) = slice_get lines (machine.position - 1)
 
 -- the rank, if it waits in its send, with the line at which it does
 abbrev pub if_waits : List ℕ → List MachineValue → List Leftover → ℕ → List WaitingRank
 if_waits lines machines left rank =
-    if waits_in_send left rank then record { rank = rank; line = line_of_machine lines (slice_get machines rank) } ∷ [] else []
+    if waits_in_send left rank then record { rank = rank; line = line_of_send lines (slice_get machines rank) } ∷ [] else []
 
 -- after this run these ranks wait in their sends, at these lines
 pub record AreWaits (lines : List ℕ) (s : SimValue) (waits : WaitingRanks) : Type 0 where
   pub ranks : waits.ranks.items ≡ join_below (if_waits lines s.machines (left_in (length s.machines) s.run)) (length s.machines)
   pub each_other : waits.each_other ≡ wait_for_each_other (left_in (length s.machines) s.run)
 
--- in some run of the program that has this outcome, and in which the machines stand where their ranks
+-- in some synchronous run of the program that has this outcome, and in which the machines stand where their ranks
 -- do, these ranks wait in their sends
 pub record WaitWith (program : ProgramValue) (n : ℕ) (lines : List ℕ) (outcome : List RankOutcome) (waits : WaitingRanks) : Type 0 where
   pub run : SimValue
   pub made : IsSimOf program n run
-  pub ended : IsOutcomeUnder Buffered (start_of program n) n run.run outcome
+  pub ended : IsOutcomeUnder Synchronous (start_of program n) n run.run outcome
   pub wait : AreWaits lines run waits
 
 -- so they do in some run that has one of these outcomes

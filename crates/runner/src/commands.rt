@@ -35,6 +35,7 @@ mod run;
 mod safety;
 mod said;
 mod scheduling;
+mod sending;
 mod sent_lines;
 mod soaking;
 mod telling;

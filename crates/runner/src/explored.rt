@@ -51,7 +51,7 @@ pub fn print_explored(
     let mut text = String::new(alloc);
     print_outcomes(alloc, &mut text, found, left, lines)?;
     print_safe(&mut text, found, synchronous)?;
-    print_meaning(&mut text, found, marks, cycle, limits.runs)?;
+    print_meaning(&mut text, found, marks, cycle, limits.runs, synchronous)?;
     Ok(text)
 }
 

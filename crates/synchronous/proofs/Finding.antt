@@ -2,9 +2,8 @@
 use Rattle.std.proofs.Common.{◌≡◌, ◌≤◌, ◌<◌, ◌+◌, ◌⊎◌, ℕ, Bool, false, true, List, codes, arith, inl, inr, refl, subst, sym}
 use Rattle.std.proofs.Math.Dec.{ltb}
 use Rattle.std.proofs.lemmas.Bool.{ltb-false, ltb-true}
-use Rattle.limits.specs.Limits.{greatest_tag}
 use Rattle.rank_text.specs.Grammar.Forms.{Form}
-use Rattle.synchronous.specs.Free.{HasFreeNames, HasNoneFree, IsAdded, IsDigit, IsFreeTag, compute_tags, is_taken, is_used, numbered}
+use Rattle.synchronous.specs.Free.{HasFreeName, HasNoneFree, IsDigit, is_taken, numbered}
 use Rattle.synchronous.specs.declared.added.Added.{Added}
 
 -- below one more, or this one
@@ -14,20 +13,6 @@ below_or_is n k less = go (ltb n k) refl
     go : (b : Bool) → ltb n k ≡ b → (n < k) ⊎ (n ≡ k)
     go true e = inl (ltb-true n k e)
     go false e = inr (let at_least = ltb-false n k e in omega (arith, less, at_least))
-
--- what holds below a number and of it holds below one more
-pub all_to : (fs : List Form) (k : ℕ) → ((n : ℕ) → n < k → is_used n fs ≡ true) → is_used k fs ≡ true
-    → (n : ℕ) → n < k + 1 → is_used n fs ≡ true
-all_to fs k before here n less = go (below_or_is n k less)
-  where
-    go : (n < k) ⊎ (n ≡ k) → is_used n fs ≡ true
-    go (inl lower) = before n lower
-    go (inr same) = subst (λ (m : ℕ). is_used m fs ≡ true) (sym same) here
-
--- the first tag that is free
-pub is_free_tag : (fs : List Form) (k : ℕ) → compute_tags fs ≡ false → ((n : ℕ) → n < k → is_used n fs ≡ true) → is_used k fs ≡ false
-    → k ≤ 32767 → IsFreeTag fs k
-is_free_tag fs k written before here legal = record { written = written; free = here; first = before; legal = legal }
 
 -- a second digit more is taken
 pub one_more : (fs : List Form) (tens k : ℕ) → ((n : ℕ) → 48 ≤ n → n < k → is_taken tens n fs ≡ true) → is_taken tens k fs ≡ true
@@ -57,23 +42,13 @@ tens_more fs k before here n ones low less digit = go (below_or_is n k less)
 
 -- so no name is free
 pub all_names : (fs : List Form) (k : ℕ) → 57 < k → ((n ones : ℕ) → 48 ≤ n → n < k → IsDigit ones → is_taken n ones fs ≡ true) → HasNoneFree fs
-all_names fs k past before = HasNoneFree.names (λ tens ones digit other.
+all_names fs k past before = (λ tens ones digit other.
     let low = digit.0 in
     let high = digit.1 in
     before tens ones low (omega (arith, past, high)) other)
 
--- names with one number that are free
-pub has_free_names : (fs : List Form) (a : Added) (tens ones : ℕ) → 48 ≤ tens → tens ≤ 57 → IsDigit ones
-    → a.reply ≡ numbered (codes "reply_") tens ones → a.source ≡ numbered (codes "source_") tens ones
-    → a.gottag ≡ numbered (codes "gottag_") tens ones → a.count ≡ numbered (codes "count_") tens ones
-    → is_taken tens ones fs ≡ false → HasFreeNames fs a
-has_free_names fs a tens ones low high digit reply source gottag count free =
-    record { tens = tens; ones = ones; digits = ((low, high), digit); reply = reply; source = source; gottag = gottag; count = count; free = free }
-
--- a tag and names that are free
-pub is_added : (fs : List Form) (a : Added) (tag : ℕ) → IsFreeTag fs tag → a.tag ≡ tag → HasFreeNames fs a → IsAdded fs a
-is_added fs a tag free same names = record { tag = subst (λ (n : ℕ). IsFreeTag fs n) (sym same) free; names = names }
-
--- no tag is
-pub no_tag : (fs : List Form) → ((n : ℕ) → n ≤ greatest_tag → is_used n fs ≡ true) → HasNoneFree fs
-no_tag fs = HasNoneFree.tags
+-- a name with a number that is free
+pub has_free_name : (fs : List Form) (a : Added) (tens ones : ℕ) → 48 ≤ tens → tens ≤ 57 → IsDigit ones
+    → a.reply ≡ numbered (codes "reply_") tens ones → is_taken tens ones fs ≡ false → HasFreeName fs a
+has_free_name fs a tens ones low high digit reply free =
+    record { tens = tens; ones = ones; digits = ((low, high), digit); reply = reply; free = free }

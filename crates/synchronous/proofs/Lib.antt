@@ -1,4 +1,3 @@
 pub mod Finding
 pub mod Putting
 pub mod Tellings
-pub mod Whole

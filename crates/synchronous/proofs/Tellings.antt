@@ -7,14 +7,14 @@ use Rattle.rank_text.specs.declared.checker.fault.ProgramFault.{ProgramFault}
 use Rattle.rank_language.specs.Correct.{IsProgramOf}
 use Rattle.rank_language.specs.Program.{ProgramValue}
 use Rattle.rank_language.specs.StandOn.{StandOn}
-use Rattle.synchronous.specs.Free.{HasFreeNames}
+use Rattle.synchronous.specs.Free.{HasFreeName}
 use Rattle.synchronous.specs.Telling.{IsTelling, telling_forms, telling_lines}
 use Rattle.synchronous.specs.declared.added.Added.{Added}
 use Rattle.synchronous.specs.declared.telling.Telling.{Telling}
 
 -- a program of the telling statements, and their lines
 pub is_telling : (t : Telling) (text : List ℕ) (forms : List Form) (added : Added) (p : ProgramValue) (lines : List ℕ) → IsText text forms
-    → HasFreeNames forms added → IsProgramOf (program_text (telling_forms t added forms)) p
+    → HasFreeName forms added → IsProgramOf (program_text (telling_forms t added forms)) p
     → (numbers : List ℕ) × StandOn text forms numbers × (lines ≡ telling_lines t added numbers forms) → IsTelling t text p lines
 is_telling t text forms added p lines reads names program stands = record {
   forms = forms;

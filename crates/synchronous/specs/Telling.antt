@@ -29,7 +29,7 @@ use Rattle.rank_text.specs.Printer.Canonical.{program_text}
 use Rattle.rank_language.specs.Correct.{IsProgramOf}
 use Rattle.rank_language.specs.Program.{ProgramValue}
 use Rattle.rank_language.specs.StandOn.{StandOn}
-use Rattle.synchronous.specs.Free.{HasFreeNames, HasNoneFree}
+use Rattle.synchronous.specs.Free.{HasFreeName, HasNoneFree}
 use Rattle.synchronous.specs.Lines.{lines_each}
 use Rattle.synchronous.specs.declared.added.Added.{Added}
 use Rattle.synchronous.specs.declared.telling.Telling.{Telling}
@@ -180,7 +180,7 @@ pub record IsTelling (t : Telling) (text : List ℕ) (p : ProgramValue) (lines :
   pub forms : List Form
   pub reads : IsText text forms
   pub added : Added
-  pub names : HasFreeNames forms added
+  pub names : HasFreeName forms added
   pub program : IsProgramOf (program_text (telling_forms t added forms)) p
   pub numbers : List ℕ
   pub stand : StandOn text forms numbers
@@ -190,5 +190,5 @@ pub record IsTelling (t : Telling) (text : List ℕ) (p : ProgramValue) (lines :
 -- declare too many variables, open too many blocks, or an expression is too large.
 pub data IsUntellable (t : Telling) (text : List ℕ) : Type 0 where
   none_free : {forms : List Form} → IsText text forms → HasNoneFree forms → IsUntellable t text
-  no_text : {forms : List Form} {added : Added} (fault : ProgramFault) → IsText text forms → HasFreeNames forms added
+  no_text : {forms : List Form} {added : Added} (fault : ProgramFault) → IsText text forms → HasFreeName forms added
       → IsFaultOf (program_text (telling_forms t added forms)) fault.line fault.kind → IsUntellable t text

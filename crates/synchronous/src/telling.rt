@@ -4,7 +4,7 @@ ghost use Rattle.rank_text.specs.Checker.Faults.{IsFaultOf, IsText};
 ghost use Rattle.rank_text.specs.Checker.SeenLines.{forms_seen};
 ghost use Rattle.rank_text.specs.declared.checker.fault.ProgramFault.{ProgramFault};
 ghost use Rattle.rank_language.specs.StandOn.{StandOn};
-ghost use Rattle.synchronous.specs.Free.{HasFreeNames};
+ghost use Rattle.synchronous.specs.Free.{HasFreeName};
 ghost use Rattle.synchronous.specs.Telling.{IsTelling, IsUntellable, telling_forms, telling_lines};
 ghost use Rattle.synchronous.specs.declared.telling.TellingFault.TheVariants.{Fault, PastLimits};
 
@@ -13,7 +13,7 @@ mod statements;
 mod tells;
 
 use crate::added::Added;
-use crate::free::free_names;
+use crate::free::free_name;
 use crate::lined_forms::LinedForms;
 use crate::telling::statements::telling_forms;
 use limits::Heap;
@@ -59,7 +59,7 @@ fn stated(
 
 /// The telling program of statements of the text, with these names.
 #[tactic(auto, using(crate::proofs::Tellings::is_telling))]
-fn with_names(
+fn with_name(
     alloc: Heap,
     telling: Telling,
     text: &[u8],
@@ -67,7 +67,7 @@ fn with_names(
     forms: &[Form],
 ) -> Result<LinedProgram, TellingFault>
     requires text { IsText text.now (forms_seen forms.now) }
-    requires names { HasFreeNames (forms_seen forms.now) added.now }
+    requires name { HasFreeName (forms_seen forms.now) added.now }
     ensures program { IfOk result (λ lined. IsTelling telling text.now lined.program lined.lines.items) }
     ensures fault { (f : ProgramFault) → result ≡ Err (Fault f) → ⊥ }
     ensures past { result ≡ Err PastLimits → IsUntellable telling text.now }
@@ -94,8 +94,8 @@ fn of_forms(
     ensures fault { (f : ProgramFault) → result ≡ Err (Fault f) → ⊥ }
     ensures past { result ≡ Err PastLimits → IsUntellable telling text.now }
 {
-    match free_names(0, forms) {
-        Some(added) => with_names(alloc, telling, text, &added, forms),
+    match free_name(forms) {
+        Some(added) => with_name(alloc, telling, text, &added, forms),
         None => Err(TellingFault::PastLimits),
     }
 }

@@ -3,6 +3,7 @@
 ghost use Rattle.std.specs.Prelude.{◌≡◌, ◌++◌, ℕ, false, true, IfOk, IfSome, IsNone, List, OnOk, slice_get, string_bytes};
 ghost use Rattle.runner.specs.Determinism.{AreAlike, ArePartedAt, IsKnown, PrintsOther, is_summary, lines_between, needs_telling, printed};
 ghost use Rattle.runner.specs.Determinism.{differ_text, first_text, known_text, past_text, same_text, stopped_text, who_differs};
+ghost use Rattle.explore.specs.declared.send_mode.SendMode.TheVariants.{Buffered};
 ghost use Rattle.runner.specs.Searches.{IsDeterminismText, IsFoundBy, IsToldOf};
 
 use crate::commands::apart::{Apart, apart_of};
@@ -10,7 +11,7 @@ use crate::commands::exploring::search;
 use crate::explored::outcome_at;
 use audit::final_runs::{RankEnd, has_lines};
 use command_line::{ExploreForm, ExploreJob};
-use explore::{Explored, FoundOutcome, Watch};
+use explore::{Explored, FoundOutcome, SendMode, Watch};
 use limits::Heap;
 use rank_language::LinedProgram;
 use std::alloc::AllocError;
@@ -85,7 +86,7 @@ fn known_of<W: Watch>(
         Err(TellingFault::Fault(_)) => return Ok(Determinism::Untold),
         Err(TellingFault::Memory) => return Err(AllocError),
     };
-    let found = search(alloc, job, &told.program, watch)?;
+    let found = search(alloc, SendMode::Buffered, job, &told.program, watch)?;
     let known = known_from(alloc, job, &told, &found)?;
     Ok(known)
 }
@@ -98,7 +99,7 @@ fn known_from(
     told: &LinedProgram,
     found: &Explored,
 ) -> Result<Determinism, AllocError>
-    requires { IsFoundBy told.now.program job found.now }
+    requires { IsFoundBy told.now.program Buffered job found.now }
     ensures { IfOk result (IsKnown told.now.program told.now.lines.items job.entry.ranks found.now) }
 {
     match two_that_differ(found) {

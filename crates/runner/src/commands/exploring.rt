@@ -2,10 +2,10 @@
 ghost use Rattle.std.specs.Prelude.{◌≡◌, ◌+◌, ℕ, IfErr, IfOk, IfSome, Some, slice_get, string_bytes};
 ghost use Rattle.runner.specs.Events.{PlaysOutcome};
 ghost use Rattle.explore.specs.Shown.{AreMarked};
+ghost use Rattle.runner.specs.Modes.{mode_of};
 ghost use Rattle.runner.specs.OutcomesText.{GoesOnAt, IsMarkedObject, IsMarkedSummary, IsMarkedText};
-ghost use Rattle.runner.specs.Reasons.{HasNoOutcome, HasNoOutcomeOf, IsSearchRefusal, IsUnsearched, UnlessMemory};
-ghost use Rattle.runner.specs.Searches.{HasSearchStatus, IsExploreAnswer, IsFoundBy, IsPrinted, IsSearchAnswer, IsSearchedOf};
-ghost use Rattle.explore.specs.declared.send_mode.SendMode.TheVariants.{Buffered};
+ghost use Rattle.runner.specs.Reasons.{HasNoOutcome, HasNoOutcomeOf, IsSearchRefusal, UnlessMemory};
+ghost use Rattle.runner.specs.Searches.{HasSearchStatus, IsExploreAnswer, IsFoundBy, IsPrinted, IsSearchAnswer};
 
 use crate::commands::determinism::print_determinism;
 use crate::commands::lining::lined_of;
@@ -13,6 +13,7 @@ use crate::commands::reading::text_in;
 use crate::commands::refusal::Refusal;
 use crate::commands::safety::safety_of;
 use crate::commands::said::Said;
+use crate::commands::sending::mode_of;
 use crate::explored::{
     Safety, all_halt, explored_json, print_explored, print_safety, print_summary,
 };
@@ -23,15 +24,14 @@ use explore::{
     run_of,
 };
 use limits::Heap;
-use rank_language::{LinedProgram, ParseFault, Program};
+use rank_language::{LinedProgram, Program};
 use run_events::laws::law_masks_reports;
 use run_events::play_text;
 use std::alloc::AllocError;
-use synchronous::{SynchronousFault, acknowledged};
 
 /// What is found of the job's program, or the events of the outcome that the job
 /// names; with status 0 where all is found and each rank halts.
-#[tactic(auto, using(crate::proofs::Searches::is_explore_answer, crate::proofs::Reasons::search_unread, crate::proofs::Reasons::search_unsearched, crate::proofs::Reasons::search_of_outcome))]
+#[tactic(auto, using(crate::proofs::Searches::is_explore_answer, crate::proofs::Reasons::search_unread, crate::proofs::Reasons::search_unparsed, crate::proofs::Reasons::search_of_outcome))]
 pub fn explored_by<'a, F: Files, W: Watch>(
     alloc: Heap,
     job: ExploreJob<'a>,
@@ -43,36 +43,10 @@ pub fn explored_by<'a, F: Files, W: Watch>(
 {
     let text = text_in(job.program, files)?;
     let source = text.as_slice();
-    let searched = match searched_of(alloc, job.synchronous, source) {
-        Ok(searched) => searched,
-        Err(fault) => return Err(Refusal::from(fault)),
-    };
+    let searched = LinedProgram::parse(alloc, source)?;
     match found_of(alloc, job, source, &searched, watch) {
         Ok(said) => Ok(said),
         Err(refusal) => Err(refusal),
-    }
-}
-
-// What is searched of a text, with the lines on which its statements stand: its program, or that
-// with acknowledgements.
-fn searched_of(
-    alloc: Heap,
-    synchronous: bool,
-    text: &[u8],
-) -> Result<LinedProgram, SynchronousFault>
-    ensures searched { IfOk result (λ searched. IsSearchedOf synchronous text.now searched.program searched.lines.items) }
-    ensures refused { IfErr result (λ fault. IsUnsearched synchronous text.now fault) }
-{
-    if synchronous {
-        return match acknowledged(alloc, text) {
-            Ok(searched) => Ok(searched),
-            Err(fault) => Err(fault),
-        };
-    }
-    match LinedProgram::parse(alloc, text) {
-        Ok(searched) => Ok(searched),
-        Err(ParseFault::Fault(fault)) => Err(SynchronousFault::Fault(fault)),
-        Err(ParseFault::Memory) => Err(SynchronousFault::Memory),
     }
 }
 
@@ -89,8 +63,8 @@ fn found_of<'a, W: Watch>(
     ensures refused { IfErr result (UnlessMemory (HasNoOutcomeOf job.entry)) }
 {
     let program = &searched.program;
-    let found = search(alloc, job, program, watch)?;
-    let safety = safety_of(alloc, job, text, searched, &found, watch)?;
+    let found = search(alloc, mode_of(job.synchronous), job, program, watch)?;
+    let safety = safety_of(alloc, job, searched, &found, watch)?;
     let mut answer = answer_of(
         alloc,
         job,
@@ -103,23 +77,24 @@ fn found_of<'a, W: Watch>(
     Ok(Said::answer(alloc, status_of(&found), answer.into_bytes()))
 }
 
-/// What a search of the program finds, within the limits of the job. If it isn't
+/// What a search of the program finds by this mode of sends, within the limits of the job. If it isn't
 /// complete, another closes over states, if one comes back.
 #[tactic(auto, using(crate::proofs::Searches::is_found_by, crate::proofs::Searches::ends_found_by))]
 pub fn search<W: Watch>(
     alloc: Heap,
+    mode: SendMode,
     job: ExploreJob<'_>,
     program: &Program,
     watch: &mut W,
 ) -> Result<Explored, AllocError>
-    ensures { IfOk result (λ found. IsFoundBy program.now job.entry found) }
+    ensures { IfOk result (λ found. IsFoundBy program.now mode job.entry found) }
 {
     law_masks_reports();
-    let found = explore(alloc, SendMode::Buffered, program, job.ranks, limits_of(job), watch)?;
+    let found = explore(alloc, mode, program, job.ranks, limits_of(job), watch)?;
     if found.complete {
         return Ok(found);
     }
-    match explore_ends(alloc, SendMode::Buffered, program, job.ranks, limits_of(job), watch)? {
+    match explore_ends(alloc, mode, program, job.ranks, limits_of(job), watch)? {
         Some(closed) => Ok(closed),
         None => Ok(found),
     }
@@ -221,7 +196,7 @@ fn json_text(
     found: &Explored,
     safety: &Safety,
 ) -> Result<String<Heap>, AllocError>
-    ensures { IfOk result (λ answer. IsMarkedObject lines.now program.now job.entry.ranks found.now safety.now (string_bytes answer)) }
+    ensures { IfOk result (λ answer. IsMarkedObject job.entry.synchronous lines.now program.now job.entry.ranks found.now safety.now (string_bytes answer)) }
 {
     let marks = marks_in(alloc, job, program, found)?;
     let left = lined_of(alloc, job, program, lines, found)?;
@@ -236,6 +211,7 @@ fn json_text(
 }
 
 // The lines at which ranks went on until a state came back, if all wasn't searched and one did.
+#[tactic(auto, using(crate::proofs::Written::goes_on_at))]
 fn cycle_in(
     alloc: Heap,
     job: ExploreJob<'_>,
@@ -243,12 +219,18 @@ fn cycle_in(
     found: &Explored,
     lines: &[usize],
 ) -> Result<Vec<usize, Heap>, AllocError>
-    ensures { IfOk result (λ cycle. GoesOnAt program.now job.entry.ranks cycle.items) }
+    ensures { IfOk result (λ cycle. GoesOnAt (mode_of job.entry.synchronous) program.now job.entry.ranks cycle.items) }
 {
     if found.complete {
         return Ok(Vec::new(alloc));
     }
-    match came_back(alloc, SendMode::Buffered, program, job.ranks, limits_of(job))? {
+    match came_back(
+        alloc,
+        mode_of(job.synchronous),
+        program,
+        job.ranks,
+        limits_of(job),
+    )? {
         Some(cycle) => lines_at(alloc, cycle.positions.as_slice(), lines),
         None => Ok(Vec::new(alloc)),
     }
@@ -285,11 +267,11 @@ fn marks_in(
     program: &Program,
     found: &Explored,
 ) -> Result<Vec<Option<bool>, Heap>, AllocError>
-    ensures { IfOk result (λ marks. AreMarked Buffered program.now job.entry.ranks found.now.outcomes found.now.choices marks.items) }
+    ensures { IfOk result (λ marks. AreMarked (mode_of job.entry.synchronous) program.now job.entry.ranks found.now.outcomes found.now.choices marks.items) }
 {
     marks_of(
         alloc,
-        SendMode::Buffered,
+        mode_of(job.synchronous),
         program,
         job.ranks,
         limits_of(job),
@@ -306,13 +288,14 @@ fn events_of<'a>(
     program: &Program,
     found: &Explored,
 ) -> Result<String<Heap>, Refusal<'a>>
-    ensures played { IfOk result (λ text. PlaysOutcome program.now job.entry.ranks found.now.outcomes number (string_bytes text)) }
+    ensures played { IfOk result (λ text. PlaysOutcome (mode_of job.entry.synchronous) program.now job.entry.ranks found.now.outcomes number (string_bytes text)) }
     ensures refused { IfErr result (UnlessMemory (HasNoOutcome number)) }
 {
     let Some(outcome) = outcome_at(found, number) else {
         return Err(Refusal::NoOutcome(number));
     };
-    match run_of(alloc, SendMode::Buffered, program, job.ranks, limits_of(job), outcome) {
+    let mode = mode_of(job.synchronous);
+    match run_of(alloc, mode, program, job.ranks, limits_of(job), outcome) {
         Ok(Some(run)) => match play_text(alloc, program, job.ranks, &run) {
             Ok(text) => Ok(text),
             Err(fault) => Err(Refusal::from(fault)),

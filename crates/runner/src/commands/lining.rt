@@ -1,17 +1,19 @@
 //! What was never received in runs that have an outcome, with the lines of the sends.
 ghost use Rattle.std.specs.Prelude.{◌≡◌, ◌<◌, IfOk, Some, length, slice_get};
+ghost use Rattle.runner.specs.Modes.{mode_of};
 ghost use Rattle.runner.specs.SentLines.{AreLined, AreListed, HaveLines};
 
 use crate::commands::exploring::limits_of;
+use crate::commands::sending::mode_of;
 use crate::commands::sent_lines::{lined_left, unlined};
 use crate::explored::{LinedLeftovers, LinedOutcome, outcome_at};
 use command_line::ExploreJob;
-use explore::{Explored, FoundOutcome, Leftovers, SendMode, run_leaving};
+use explore::{Explored, FoundOutcome, Leftovers, run_leaving};
 use limits::Heap;
 use rank_language::Program;
 use std::alloc::AllocError;
 
-/// What is listed of each outcome. The statement at position K of the program
+/// What is listed of each outcome, by the mode of sends of the job. The statement at position K of the program
 /// stands on line `lines[K]` of its text. An `Err` means out of memory.
 #[tactic(auto, using(crate::proofs::SentLines::none_lined, crate::proofs::SentLines::one_more_lined))]
 pub fn lined_of(
@@ -21,7 +23,7 @@ pub fn lined_of(
     lines: &[usize],
     found: &Explored,
 ) -> Result<Vec<LinedOutcome, Heap>, AllocError>
-    ensures { IfOk result (λ lined. AreLined program.now job.entry.ranks lines.now found.now.outcomes found.now.left lined.items) }
+    ensures { IfOk result (λ lined. AreLined (mode_of job.entry.synchronous) program.now job.entry.ranks lines.now found.now.outcomes found.now.left lined.items) }
 {
     let mut lined = Vec::new(alloc);
     for index in 0..found.outcomes.len() {
@@ -39,7 +41,7 @@ fn lined_outcome(
     lines: &[usize],
     outcome: &FoundOutcome,
 ) -> Result<LinedOutcome, AllocError>
-    ensures { IfOk result (AreListed program.now job.entry.ranks lines.now outcome.now.ranks outcome.now.left) }
+    ensures { IfOk result (AreListed (mode_of job.entry.synchronous) program.now job.entry.ranks lines.now outcome.now.ranks outcome.now.left) }
 {
     let mut left = Vec::new(alloc);
     for index in 0..outcome.left.len() {
@@ -66,12 +68,21 @@ fn lined_leftovers(
     outcome: &FoundOutcome,
     left: &Leftovers,
 ) -> Result<LinedLeftovers, AllocError>
-    ensures { IfOk result (HaveLines program.now job.entry.ranks lines.now outcome.now.ranks left.now) }
+    ensures { IfOk result (HaveLines (mode_of job.entry.synchronous) program.now job.entry.ranks lines.now outcome.now.ranks left.now) }
 {
     if left.messages.is_empty() {
         return Ok(unlined(alloc, left.messages.as_slice())?);
     }
-    match run_leaving(alloc, SendMode::Buffered, program, job.ranks, limits_of(job), outcome, left)? {
+    let mode = mode_of(job.synchronous);
+    match run_leaving(
+        alloc,
+        mode,
+        program,
+        job.ranks,
+        limits_of(job),
+        outcome,
+        left,
+    )? {
         Some(run) => Ok(lined_left(alloc, program, job.ranks, lines, &run)?),
         None => Ok(unlined(alloc, left.messages.as_slice())?),
     }

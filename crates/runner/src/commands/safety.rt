@@ -1,4 +1,4 @@
-//! Whether the program of a search is safe: a second search, of the program with acknowledgements.
+//! Whether the program of a search is safe: a second search, of its synchronous runs.
 ghost use Rattle.std.specs.Prelude.{◌≡◌, false, true, IfOk, slice_get};
 ghost use Rattle.rank_language.specs.Seen.{line_of};
 ghost use Rattle.runner.specs.Safety.{IsHalting, IsVerdict, has_send, is_send, is_told, needs_second, sends_at};
@@ -8,24 +8,22 @@ use crate::commands::exploring::search;
 use crate::commands::waiting::{waiting_at, waits_in};
 use crate::explored::{Safety, Unknown, all_halt, outcome_at};
 use command_line::{ExploreForm, ExploreJob};
-use explore::{Explored, Watch};
+use explore::{Explored, SendMode, Watch};
 use limits::Heap;
 use rank_language::{LinedProgram, Program, Statement};
 use std::alloc::AllocError;
-use synchronous::{SynchronousFault, acknowledged};
 
-/// Whether the program of this text is safe, of which a search found this. If the search was one of
+/// Whether the program is safe, of which a search found this. If the search was one of
 /// synchronous runs, it says so itself.
 #[tactic(auto, using(crate::proofs::Searches::is_itself, crate::proofs::Searches::is_untold, crate::proofs::Searches::is_second))]
 pub fn safety_of<W: Watch>(
     alloc: Heap,
     job: ExploreJob<'_>,
-    text: &[u8],
     searched: &LinedProgram,
     found: &Explored,
     watch: &mut W,
 ) -> Result<Safety, AllocError>
-    ensures { IfOk result (λ safety. IsSafetyOf text.now searched.now.lines.items searched.now.program job.entry found.now safety) }
+    ensures { IfOk result (λ safety. IsSafetyOf searched.now.lines.items searched.now.program job.entry found.now safety) }
 {
     if job.synchronous {
         return Ok(verdict_of(alloc, job, searched, found)?);
@@ -33,7 +31,7 @@ pub fn safety_of<W: Watch>(
     if !needs_second(job, &searched.program, found) {
         return Ok(Safety::Untold);
     }
-    Ok(second_search(alloc, job, text, watch)?)
+    Ok(second_search(alloc, job, searched, watch)?)
 }
 
 fn needs_second(job: ExploreJob<'_>, program: &Program, found: &Explored) -> bool
@@ -86,35 +84,26 @@ fn is_send(statement: &Statement) -> bool
     }
 }
 
-// What a search of the text's program with acknowledgements says.
-#[tactic(auto, using(crate::proofs::Searches::of_computed, crate::proofs::Searches::of_limits, crate::proofs::Searches::of_fault, crate::proofs::Searches::of_second))]
+// What a search of the program's synchronous runs says.
+#[tactic(auto, using(crate::proofs::Searches::of_second))]
 fn second_search<W: Watch>(
     alloc: Heap,
     job: ExploreJob<'_>,
-    text: &[u8],
+    searched: &LinedProgram,
     watch: &mut W,
 ) -> Result<Safety, AllocError>
-    ensures { IfOk result (λ safety. IsSecond text.now job.entry safety) }
+    ensures { IfOk result (λ safety. IsSecond searched.now.lines.items searched.now.program job.entry safety) }
 {
-    let second = match acknowledged(alloc, text) {
-        Ok(second) => second,
-        Err(SynchronousFault::ComputedTag) => return Ok(Safety::Unknown(Unknown::ComputedTag)),
-        Err(SynchronousFault::PastLimits) => return Ok(Safety::Unknown(Unknown::PastLimits)),
-        // the text has a program, which was searched
-        Err(SynchronousFault::Fault(_)) => return Ok(Safety::Untold),
-        Err(SynchronousFault::Memory) => return Err(AllocError),
-    };
-    let found = search(alloc, job, &second.program, watch)?;
-    let verdict = verdict_of(alloc, job, &second, &found);
+    let found = search(alloc, SendMode::Synchronous, job, &searched.program, watch)?;
+    let verdict = verdict_of(alloc, job, searched, &found);
     drop(found);
-    drop(second);
     match verdict {
         Ok(verdict) => Ok(verdict),
         Err(error) => Err(error),
     }
 }
 
-// What was found of the program with acknowledgements says whether it is safe.
+// What was found of the synchronous runs of the program says whether it is safe.
 #[tactic(auto, using(crate::proofs::Safety::is_safe, crate::proofs::Safety::is_not_safe, crate::proofs::Safety::is_unhalted, crate::proofs::Safety::is_stopped))]
 fn verdict_of(
     alloc: Heap,

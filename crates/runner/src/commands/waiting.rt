@@ -1,7 +1,7 @@
-//! Who waits in a send, after runs of a program with acknowledgements.
+//! Who waits in a send, after synchronous runs of a program.
 ghost use Rattle.std.specs.Prelude.{◌≡◌, ◌<◌, ◌⊎◌, false, true, IfOk, IfSome, IsNone, length, slice_get};
 ghost use Rattle.std.specs.List.{list_any};
-ghost use Rattle.runner.specs.Waits.{AreWaits, IsEmpty, WaitWith, is_for_another, is_sent_by, is_tag, line_of_machine};
+ghost use Rattle.runner.specs.Waits.{AreWaits, IsEmpty, WaitWith, is_for_another, is_sent_by, is_tag, line_of_send};
 ghost use Rattle.runner.specs.Waits.{some_wait, wait_for_each_other, waits_in_send, waits_somewhere};
 
 use crate::commands::exploring::limits_of;
@@ -62,7 +62,14 @@ pub fn waits_in(
 ) -> Result<WaitingRanks, AllocError>
     ensures { IfOk result (λ waits. WaitWith searched.now.program job.entry.ranks searched.now.lines.items outcome.now.ranks waits ⊎ IsEmpty waits) }
 {
-    match run_of(alloc, SendMode::Buffered, &searched.program, job.ranks, limits_of(job), outcome)? {
+    match run_of(
+        alloc,
+        SendMode::Synchronous,
+        &searched.program,
+        job.ranks,
+        limits_of(job),
+        outcome,
+    )? {
         Some(run) => waits_after(alloc, &run, searched.lines.as_slice()),
         None => Ok(WaitingRanks {
             ranks: Vec::new(alloc),
@@ -79,7 +86,7 @@ fn waits_after(alloc: Heap, run: &Sim<'_>, lines: &[usize]) -> Result<WaitingRan
     let mut ranks = Vec::new(alloc);
     for rank in 0..run.ranks() {
         if waits_in_send(left.as_slice(), rank) {
-            let line = line_of_rank(run, rank, lines);
+            let line = line_of_its_send(run, rank, lines);
             ranks.push(WaitingRank { rank, line })?;
         }
     }
@@ -89,12 +96,14 @@ fn waits_after(alloc: Heap, run: &Sim<'_>, lines: &[usize]) -> Result<WaitingRan
     })
 }
 
-// The line at which a rank stands, if it is known.
-fn line_of_rank(run: &Sim<'_>, rank: u8, lines: &[usize]) -> Option<usize>
+// The line of the send behind which a rank stands, if it is known: of a send it goes on to the
+// statement behind it, and waits there.
+fn line_of_its_send(run: &Sim<'_>, rank: u8, lines: &[usize]) -> Option<usize>
     requires { rank < length run.now.machines }
-    ensures { result ≡ line_of_machine lines.now (slice_get run.now.machines rank) }
+    ensures { result ≡ line_of_send lines.now (slice_get run.now.machines rank) }
 {
-    lines.get(run.machine(rank).position()).copied()
+    let behind = run.machine(rank).position();
+    lines.get(behind.saturating_sub(1)).copied()
 }
 
 // Whether a message that the rank sent is among those that were never received.

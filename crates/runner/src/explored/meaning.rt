@@ -2,8 +2,8 @@
 ghost use Rattle.std.specs.Prelude.{◌≡◌, ◌++◌, OnOk, length, string_bytes};
 ghost use Rattle.std.specs.Fmt.{decimal};
 ghost use Rattle.explore.specs.Explored.{rank_outcomes};
-ghost use Rattle.runner.specs.Meanings.{between, cycle_line, cycle_text, cycle_words, enumeration, fault_line, fault_words, faults_text, is_of, limits_text, named_lines, named_ranks};
-ghost use Rattle.runner.specs.Meanings.{count_text, mark_text, marks_text, meaning_text, only_text, ranks_line, ranks_of, runs_text, stalls_text};
+ghost use Rattle.runner.specs.Meanings.{between, cycle_line, cycle_text, cycle_words, enumeration, fault_line, fault_words, faults_text, is_of, limits_text, lone_lines, lone_words, named_lines, named_ranks};
+ghost use Rattle.runner.specs.Meanings.{count_text, crashes_text, mark_text, marks_text, meaning_text, only_text, ranks_line, ranks_of, runs_text, stalls_text};
 ghost use Rattle.runner.specs.Meanings.{states_text, steps_text, stop_text, unhalted_text};
 
 use audit::End;
@@ -20,10 +20,11 @@ pub fn print_meaning(
     marks: &[Option<bool>],
     cycle: &[usize],
     runs: u32,
+    synchronous: bool,
 ) -> Result<(), AllocError>
-    ensures { OnOk result (string_bytes text.new ≡ string_bytes text.old ++ meaning_text found.now marks.now cycle.now runs) }
+    ensures { OnOk result (string_bytes text.new ≡ string_bytes text.old ++ meaning_text synchronous found.now marks.now cycle.now runs) }
 {
-    print_only(text, found)?;
+    print_only(text, found, synchronous)?;
     print_unhalted(text, found.outcomes.as_slice())?;
     print_marks(text, marks)?;
     print_state_limit(text, found)?;
@@ -32,15 +33,41 @@ pub fn print_meaning(
 }
 
 // That there is one outcome, if this is certain, and what crashes change then.
-fn print_only(text: &mut String<Heap>, found: &Explored) -> Result<(), AllocError>
-    ensures { OnOk result (string_bytes text.new ≡ string_bytes text.old ++ only_text found.now) }
+fn print_only(
+    text: &mut String<Heap>,
+    found: &Explored,
+    synchronous: bool,
+) -> Result<(), AllocError>
+    ensures { OnOk result (string_bytes text.new ≡ string_bytes text.old ++ only_text synchronous found.now) }
 {
     if found.complete && found.outcomes.len() == 1 {
-        return text.push_str(
-            "# one outcome: whatever the order, this program prints this\n# whatever crashes, each rank prints this, or a beginning of it\n",
-        );
+        return print_lone_lines(text, synchronous);
     }
     Ok(())
+}
+
+fn print_lone_lines(text: &mut String<Heap>, synchronous: bool) -> Result<(), AllocError>
+    ensures { OnOk result (string_bytes text.new ≡ string_bytes text.old ++ lone_lines synchronous) }
+{
+    print_lone_words(text)?;
+    print_crashes(text, synchronous)
+}
+
+#[tactic(auto, unfolding(crate::specs::Meanings::lone_words))]
+fn print_lone_words(text: &mut String<Heap>) -> Result<(), AllocError>
+    ensures { OnOk result (string_bytes text.new ≡ string_bytes text.old ++ lone_words) }
+{
+    text.push_str("# one outcome: whatever the order, this program prints this\n")
+}
+
+// What crashes change then; of synchronous runs it isn't known.
+fn print_crashes(text: &mut String<Heap>, synchronous: bool) -> Result<(), AllocError>
+    ensures { OnOk result (string_bytes text.new ≡ string_bytes text.old ++ crashes_text synchronous) }
+{
+    if synchronous {
+        return Ok(());
+    }
+    text.push_str("# whatever crashes, each rank prints this, or a beginning of it\n")
 }
 
 // Which outcomes were found by runs that no execution gives.

@@ -33,7 +33,7 @@ pub fn print_summary(
     }
     print_shorts(&mut text, left)?;
     print_safe(&mut text, found, synchronous)?;
-    print_meaning(&mut text, found, marks, cycle, limits.runs)?;
+    print_meaning(&mut text, found, marks, cycle, limits.runs, synchronous)?;
     Ok(text)
 }
 

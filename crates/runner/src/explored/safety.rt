@@ -26,11 +26,7 @@ pub struct WaitingRanks {
 /// Why it isn't known whether a program is safe.
 #[derive(Clone, Copy)]
 pub enum Unknown {
-    /// A send computes its tag, so there is no acknowledged program.
-    ComputedTag,
-    /// The acknowledged program passes a limit of texts.
-    PastLimits,
-    /// Its search came to a limit.
+    /// The search of its synchronous runs came to a limit.
     Stopped,
     /// A rank doesn't halt, and no message was found that waits for its receive.
     Unhalted,
@@ -77,12 +73,6 @@ fn print_unknown(text: &mut String<Heap>, why: Unknown) -> Result<(), AllocError
     ensures { OnOk result (string_bytes text.new ≡ string_bytes text.old ++ unknown_text why) }
 {
     match why {
-        Unknown::ComputedTag => text.push_str(
-            "# not known whether it is safe: a send computes its tag\n",
-        ),
-        Unknown::PastLimits => text.push_str(
-            "# not known whether it is safe: with acknowledgements it passes a limit of texts\n",
-        ),
         Unknown::Stopped => text.push_str(
             "# not known whether it is safe: the search without buffers came to a limit\n",
         ),

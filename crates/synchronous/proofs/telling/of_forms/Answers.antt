@@ -3,4 +3,4 @@ use Rattle.synchronous.proofs.telling.of_forms.Goals as goal
 
 -- nothing is free
 pub returns-in-None-clause-past : goal.returns-in-None-clause-past
-returns-in-None-clause-past c = λ _. none_free c.requires (c.free_names.ensures.none c.in-None.is)
+returns-in-None-clause-past c = λ _. none_free c.requires (c.free_name.ensures.none c.in-None.is)

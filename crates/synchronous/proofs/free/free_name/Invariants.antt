@@ -1,7 +1,7 @@
 use Rattle.std.proofs.Common.{◌≡◌, ◌≤◌, ◌<◌, ◌-◌, ℕ, true}
 use Rattle.rank_text.specs.Checker.SeenLines.{forms_seen}
 use Rattle.synchronous.specs.Free.{IsDigit, is_taken}
-use Rattle.synchronous.proofs.free.free_names.Given as goal
+use Rattle.synchronous.proofs.free.free_name.Given as goal
 
 -- with each digit so far a name is taken, whatever the second is
 abbrev pub invariant-loop-tens : goal.invariant-loop-tens
