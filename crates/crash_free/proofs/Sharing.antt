@@ -47,7 +47,7 @@ statement_sync = variants_sync Statement.enum (search (expression_sync, payload_
 compact_sync : IsSync Compact.the_row
 compact_sync = variants_sync Compact.enum (tt, (tt, (search (crosses, sendable) depth 60, (search (crosses, sendable) depth 60, (search (crosses, sendable) depth 60, (search (crosses, sendable) depth 60, (search (crosses, sendable) depth 60, (search (crosses, sendable) depth 60, (search (crosses, sendable) depth 60, (search (crosses, sendable) depth 60, (search (crosses, sendable) depth 60, (search (crosses, sendable) depth 60, (search (crosses, sendable) depth 60, (search (crosses, sendable) depth 60, (search (crosses, sendable) depth 60, (search (crosses, sendable) depth 60, (search (crosses, sendable) depth 60, (search (crosses, sendable) depth 60, (search (crosses, sendable) depth 60, (search (crosses, sendable) depth 60, (search (crosses, sendable) depth 60, (search (crosses, sendable) depth 60, (search (crosses, sendable) depth 60, (search (crosses, sendable) depth 60, (search (crosses, sendable) depth 60, (search (crosses, sendable) depth 60, (search (crosses, sendable) depth 60, (search (crosses, sendable) depth 60, (search (crosses, sendable) depth 60, (search (crosses, sendable) depth 60, tt))))))))))))))))))))))))))))))
 
-program_sync : IsSync Program.the_row
+pub program_sync : IsSync Program.the_row
 program_sync = search (statement_sync, name_sync, array_sync, compact_sync, crosses, sendable) depth 60
 
 items_send : IsSend Items.the_row

@@ -17,6 +17,7 @@ mod RestingLemmas
 mod RowLemmas
 mod SeatLemmas
 mod SeatingLemmas
+mod Sharing
 mod StepLaws
 mod TakingLemmas
 mod TurnLemmas

@@ -1,7 +1,6 @@
 -- What a life counts, by the end with which its station comes back; and life after life.
 use Rattle.std.proofs.Common.{◌≡◌, ◌≢◌, ◌⊎◌, inl, inr, ℕ, Bool, true, false, is_some, List, Option, Some, None, refl, sym, ap, ◌∙◌}
 use Rattle.event_logger.specs.Desks.{own_row}
-use Rattle.rank_language.specs.Correct.{IsProgramOf}
 use Rattle.rank_language.specs.Program.{ProgramValue}
 use Rattle.rank_node.specs.Phases.{stable_in}
 use Rattle.rank_node.specs.declared.fault.NodeFault.{NodeFault}
@@ -23,16 +22,14 @@ by_end (ending.Crashed killed) is_spent p crashes = refl
 by_end (ending.Left reason) is_spent p crashes = refl
 
 -- a life that began at a station and ended so was lived, and is counted by the end
-pub has_lived : (text : List ℕ) (program : ProgramValue) (old new : Station) (begun ended : Life) (how : Ending)
-    → IsProgramOf text program → Begins program old.down old.row begun.node.phase → begun.kit.plan ≡ old.kit.plan → begun.kit.tally ≡ old.kit.tally
+pub has_lived : (program : ProgramValue) (old new : Station) (begun ended : Life) (how : Ending)
+    → Begins program old.down old.row begun.node.phase → begun.kit.plan ≡ old.kit.plan → begun.kit.tally ≡ old.kit.tally
     → SamePlace begun ended → UsesLines how begun.kit.plan ended.kit.plan → IsKilledAt how ended.node.phase
     → ended.kit.tally.crashes ≡ crashes_after how begun.kit.tally.crashes
     → new.end ≡ end_after how ended.kit.tally.is_spent ended.node.phase
     → new.down ≡ stable_in ended.node.phase → new.kit.plan ≡ ended.kit.plan → new.kit.tally ≡ ended.kit.tally
-    → new.stood ≡ stood_after how ended.node.phase → HasLived text old new
-has_lived text program old new begun ended how reads begins plan counts same lines killed counted leaves down left tally stands none = record {
-  program = program;
-  reads = reads;
+    → new.stood ≡ stood_after how ended.node.phase → HasLived program old new
+has_lived program old new begun ended how begins plan counts same lines killed counted leaves down left tally stands none = record {
   begun = begun;
   begins = begins;
   plan = plan;
@@ -56,24 +53,22 @@ has_lived text program old new begun ended how reads begins plan counts same lin
 }
 
 -- if a rank met a fault nothing is said
-pub met_fault : (text : List ℕ) (old new : Station) (f : NodeFault) → new.kit.tally.fault ≡ Some f → HasLived text old new
-met_fault text old new f met none = (let both : Some f ≡ None = sym met ∙ none in absurd cc)
+pub met_fault : (program : ProgramValue) (old new : Station) (f : NodeFault) → new.kit.tally.fault ≡ Some f → HasLived program old new
+met_fault program old new f met none = (let both : Some f ≡ None = sym met ∙ none in absurd cc)
 
 -- nor if it has one
-pub has_fault : (text : List ℕ) (old new : Station) → is_some new.kit.tally.fault ≡ true → HasLived text old new
-has_fault text old new some none = (let gone : false ≡ true = ap is_some (sym none) ∙ some in absurd cc)
+pub has_fault : (program : ProgramValue) (old new : Station) → is_some new.kit.tally.fault ≡ true → HasLived program old new
+has_fault program old new some none = (let gone : false ≡ true = ap is_some (sym none) ∙ some in absurd cc)
 
 -- what comes behind a life, counts no crash, uses no line, and keeps shelf and stored events leaves
 -- it as it was
-pub lived_on : (text : List ℕ) (old mid new : Station) → HasLived text old mid → (new.kit.tally.fault ≢ Some fault.Memory → new.kit.tally.fault ≡ mid.kit.tally.fault)
+pub lived_on : (program : ProgramValue) (old mid new : Station) → HasLived program old mid → (new.kit.tally.fault ≢ Some fault.Memory → new.kit.tally.fault ≡ mid.kit.tally.fault)
     → new.end ≡ mid.end → new.kit.plan ≡ mid.kit.plan → new.stood ≡ mid.stood → new.kit.tally.crashes ≡ mid.kit.tally.crashes → new.kit.tally.steps ≡ mid.kit.tally.steps
     → new.kit.tally.is_spent ≡ mid.kit.tally.is_spent → new.down.shelf ≡ mid.down.shelf → own_row new.down.desk ≡ own_row mid.down.desk
-    → HasLived text old new
-lived_on text old mid new lived kept end plan stood same steps spent shelf stored none =
+    → HasLived program old new
+lived_on program old mid new lived kept end plan stood same steps spent shelf stored none =
     let life = lived (sym (kept (λ memory. (let both : None ≡ Some fault.Memory = sym none ∙ memory in absurd cc))) ∙ none) in
     record {
-      program = life.program;
-      reads = life.reads;
       begun = life.begun;
       begins = life.begins;
       plan = life.plan;
@@ -99,27 +94,27 @@ well_or_not None = inl refl
 well_or_not (Some e) = inr (λ both. absurd cc)
 
 -- one life more, without a fault, by which the rank crashed
-pub lives_on : (text : List ℕ) (first old new : Station) → ((u : Station) → Lives text old u → Lives text first u)
-    → HasLived text old new → new.end ≡ None → new.kit.tally.fault ≡ None → (new.end ≡ None → new.kit.tally.fault ≡ None → HasRow new) → (u : Station) → Lives text new u → Lives text first u
-lives_on text first old new before lived crashed well row u rest = before u (again (lived well) well crashed (row crashed well) rest)
+pub lives_on : (program : ProgramValue) (first old new : Station) → ((u : Station) → Lives program old u → Lives program first u)
+    → HasLived program old new → new.end ≡ None → new.kit.tally.fault ≡ None → (new.end ≡ None → new.kit.tally.fault ≡ None → HasRow new) → (u : Station) → Lives program new u → Lives program first u
+lives_on program first old new before lived crashed well row u rest = before u (again (lived well) well crashed (row crashed well) rest)
 
 -- the last life, in which the rank left, or met a fault
-pub lives_last : (text : List ℕ) (first old new : Station) → ((u : Station) → Lives text old u → Lives text first u) → HasLived text old new
-    → new.end ≢ None → Lives text first new
-lives_last text first old new before lived left =
+pub lives_last : (program : ProgramValue) (first old new : Station) → ((u : Station) → Lives program old u → Lives program first u) → HasLived program old new
+    → new.end ≢ None → Lives program first new
+lives_last program first old new before lived left =
     elim (well_or_not new.kit.tally.fault) [ inl well ↦ before new (last (lived well) well left) | inr fault ↦ before new (failed fault) ]
 
 -- the last life, behind which the rank has a fault, and is given up with it
-pub lives_failed : (text : List ℕ) (first old mid new : Station) → ((u : Station) → Lives text old u → Lives text first u)
-    → is_some mid.kit.tally.fault ≡ true → new.kit.tally ≡ mid.kit.tally → Lives text first new
-lives_failed text first old mid new before some same = before new (failed (λ none.
+pub lives_failed : (program : ProgramValue) (first old mid new : Station) → ((u : Station) → Lives program old u → Lives program first u)
+    → is_some mid.kit.tally.fault ≡ true → new.kit.tally ≡ mid.kit.tally → Lives program first new
+lives_failed program first old mid new before some same = before new (failed (λ none.
     let gone : false ≡ true = ap is_some (sym (ap (λ t. t.fault) (sym same) ∙ none)) ∙ some in
     absurd cc))
 
 -- no life more, as the rank was told to leave
-pub lives_told : (text : List ℕ) (first old new : Station) → ((u : Station) → Lives text old u → Lives text first u) → IsToldToLeave old new
-    → Lives text first new
-lives_told text first old new before left = before new (told left)
+pub lives_told : (program : ProgramValue) (first old new : Station) → ((u : Station) → Lives program old u → Lives program first u) → IsToldToLeave old new
+    → Lives program first new
+lives_told program first old new before left = before new (told left)
 
 -- what leads from life to life
 pub ruleset keeper_laws = (lives_on, lives_last, lives_failed, lives_told)

@@ -2,6 +2,7 @@
 use Rattle.std.proofs.Common.{◌≡◌, ℕ, zero, suc, ◌+◌, ◌-◌, ◌^◌, ◌≤◌, min, Bool, true, false, List, []}
 use Rattle.std.proofs.Common.{◌∷◌, ◌++◌, map, length, Option, Some, None, if◌then◌else◌, refl, sym, ap, ◌∙◌, arith}
 use Rattle.std.proofs.lemmas.List.{append_assoc}
+use Rattle.rank_language.specs.Program.{ProgramValue}
 use Rattle.rank_text.specs.Scripts.Script.{orders_of}
 use Rattle.rank_text.specs.declared.script.line.ScriptLine.{ScriptLine}
 use Rattle.rank_threads.specs.Kills.{kills_in, kills_used, kills_used_from, used_of}
@@ -57,8 +58,8 @@ record Counted (old new : Station) : Type 0 where
   pub crashes : new.kit.tally.crashes ≡ min (old.kit.tally.crashes + kills_in lines) most
 
 -- in one life
-life_counted : (text : List ℕ) (old new : Station) → IsLife text old new → old.kit.tally.crashes ≤ most → Counted old new
-life_counted text old new life low =
+life_counted : (program : ProgramValue) (old new : Station) → IsLife program old new → old.kit.tally.crashes ≤ most → Counted old new
+life_counted program old new life low =
     let all = used_by life.how life.ended.kit.tally.is_spent life.ended.node.phase life.begun.kit.plan life.ended.kit.plan new.end life.lines life.leaves in
     record {
       lines = all.lines;
@@ -67,17 +68,17 @@ life_counted text old new life low =
     }
 
 -- in all lives of a rank that has no fault at the end
-counted : (text : List ℕ) (old new : Station) → Lives text old new → new.kit.tally.fault ≡ None → old.kit.tally.crashes ≤ most → Counted old new
-counted text old new (told left) none low = record {
+counted : (program : ProgramValue) (old new : Station) → Lives program old new → new.kit.tally.fault ≡ None → old.kit.tally.crashes ≤ most → Counted old new
+counted program old new (told left) none low = record {
   lines = [];
   first = sym left.plan;
   crashes = ap (λ t. t.crashes) left.counts ∙ stops_not old.kit.tally.crashes most low;
 }
-counted text old new (failed fault) none low = absurd (fault none)
-counted text old new (last life well left) none low = life_counted text old new life low
-counted text old new (again {mid = mid} life well crashed row more) none low =
-    let one = life_counted text old mid life low in
-    let rest = counted text mid new more none (rw (one.crashes) (stops_low (old.kit.tally.crashes + kills_in one.lines) most)) in
+counted program old new (failed fault) none low = absurd (fault none)
+counted program old new (last life well left) none low = life_counted program old new life low
+counted program old new (again {mid = mid} life well crashed row more) none low =
+    let one = life_counted program old mid life low in
+    let rest = counted program mid new more none (rw (one.crashes) (stops_low (old.kit.tally.crashes + kills_in one.lines) most)) in
     record {
       lines = one.lines ++ rest.lines;
       first = one.first ∙ ap (λ l. one.lines ++ l) rest.first ∙ sym (append_assoc one.lines rest.lines new.kit.plan);
@@ -119,18 +120,18 @@ planned rank zero script (s ∷ ss) same = absurd cc
 planned rank (suc k) script (s ∷ ss) same = (cc, planned (rank + 1) k script ss cc)
 
 -- all ranks have crashed as often as kills were used
-all_counted : (text : List ℕ) (script : List ScriptLine) (rank crashes : ℕ) (begun ended : List Station)
-    → AreNew begun → ArePlanned rank script begun → WereKept text begun ended → AreWell (accounts_of ended) → crashes ≤ most
+all_counted : (program : ProgramValue) (script : List ScriptLine) (rank crashes : ℕ) (begun ended : List Station)
+    → AreNew begun → ArePlanned rank script begun → WereKept program begun ended → AreWell (accounts_of ended) → crashes ≤ most
     → crashes_from crashes (accounts_of ended) ≡ min (crashes + kills_used_from rank script (map (λ a. a.unused) (accounts_of ended))) most
-all_counted text script rank crashes [] [] new planned kept well low = stops_not crashes most low
-all_counted text script rank crashes [] (y ∷ ys) new planned kept well low = absurd kept
-all_counted text script rank crashes (x ∷ xs) [] new planned kept well low = absurd kept
-all_counted text script rank crashes (x ∷ xs) (y ∷ ys) new planned kept well low =
+all_counted program script rank crashes [] [] new planned kept well low = stops_not crashes most low
+all_counted program script rank crashes [] (y ∷ ys) new planned kept well low = absurd kept
+all_counted program script rank crashes (x ∷ xs) [] new planned kept well low = absurd kept
+all_counted program script rank crashes (x ∷ xs) (y ∷ ys) new planned kept well low =
     let none : x.kit.tally.crashes ≡ 0 = ap (λ t. t.crashes) new.0.tally in
-    let one = counted text x y kept.0.1 well.0 (rw (none) (omega arith)) in
+    let one = counted program x y kept.0.1 well.0 (rw (none) (omega arith)) in
     let lines : used_of (orders_of rank script) (length y.kit.plan) ≡ one.lines
     = ap (λ l. used_of l (length y.kit.plan)) (sym planned.0 ∙ one.first) ∙ used_first one.lines y.kit.plan in
-    let rest = all_counted text script (rank + 1) (min (crashes + y.kit.tally.crashes) most) xs ys new.1 planned.1 kept.1 well.1
+    let rest = all_counted program script (rank + 1) (min (crashes + y.kit.tally.crashes) most) xs ys new.1 planned.1 kept.1 well.1
     (stops_low (crashes + y.kit.tally.crashes) most) in
     let many = kills_used_from (rank + 1) script (map (λ a. a.unused) (accounts_of ys)) in
     rest ∙ ap (λ n. min (min (crashes + n) most + many) most) (one.crashes ∙ ap (λ n. min (n + kills_in one.lines) most) none)
@@ -159,11 +160,11 @@ pub none_well : (cs : List Account) → fault_of cs ≡ None → AreWell cs
 none_well cs none = lowest_well 0 cs (none_else (lacked_memory cs) _ (lowest_from 0 cs) none)
 
 -- so a report has counted the kills that were used, if no rank met a fault
-pub kills_counted : (text : List ℕ) (ranks : ℕ) (script : List ScriptLine) (begun ended : List Station)
-    → AreNew begun → plans_of begun ≡ plans_below ranks script → WereKept text begun ended → AreWell (accounts_of ended)
+pub kills_counted : (program : ProgramValue) (ranks : ℕ) (script : List ScriptLine) (begun ended : List Station)
+    → AreNew begun → plans_of begun ≡ plans_below ranks script → WereKept program begun ended → AreWell (accounts_of ended)
     → crashes_from 0 (accounts_of ended) ≡ kills_used script (map (λ a. a.unused) (accounts_of ended))
-kills_counted text ranks script begun ended new lines kept well =
-    let all = all_counted text script 0 0 begun ended new (planned 0 ranks script begun (lines ∙ plans_same ranks script)) kept well (omega arith) in
+kills_counted program ranks script begun ended new lines kept well =
+    let all = all_counted program script 0 0 begun ended new (planned 0 ranks script begun (lines ∙ plans_same ranks script)) kept well (omega arith) in
     let many = kills_used_from 0 script (map (λ a. a.unused) (accounts_of ended)) in
     let none : 0 + many ≡ many = omega arith in
     all ∙ ap (λ n. min n most) none

@@ -3,7 +3,6 @@ use Rattle.std.proofs.Common.{◌≡◌, ◌≢◌, ◌⊎◌, inl, inr, ℕ, ze
 use Rattle.std.proofs.lemmas.List.{get_or_append_left}
 use Rattle.checkpoint.specs.declared.memory_shelf.MemoryShelf.{MemoryShelf}
 use Rattle.event_logger.specs.Desks.{DeskValue}
-use Rattle.rank_language.specs.Correct.{IsProgramOf}
 use Rattle.rank_language.specs.Program.{ProgramValue}
 use Rattle.rank_node.specs.Phases.{stable_in}
 use Rattle.rank_node.specs.Stored.{Stored}
@@ -34,7 +33,7 @@ stable_on a b c one two = record {
 }
 
 -- the same place, twice
-place_on : (a b c : Life) → SamePlace a b → SamePlace b c → SamePlace a c
+pub place_on : (a b c : Life) → SamePlace a b → SamePlace b c → SamePlace a c
 place_on a b c one two = (
   two.0 ∙ one.0,
   (stable_on (stable_in a.node.phase) (stable_in b.node.phase) (stable_in c.node.phase) one.1.0 two.1.0, two.1.1 ∙ one.1.1),
@@ -64,12 +63,10 @@ life_between a d b c begun same over = (
 )
 
 -- a life goes on that has begun at a station
-pub living_first : (text : List ℕ) (program : ProgramValue) (old : Station) (life : Life)
-    → IsProgramOf text program → Begins program old.down old.row life.node.phase → life.kit.plan ≡ old.kit.plan
-    → life.kit.tally ≡ old.kit.tally → IsLifeOf old life → IsLiving text old life
-living_first text program old life reads begins plan counts place = record {
-  program = program;
-  reads = reads;
+pub living_first : (program : ProgramValue) (old : Station) (life : Life)
+    → Begins program old.down old.row life.node.phase → life.kit.plan ≡ old.kit.plan
+    → life.kit.tally ≡ old.kit.tally → IsLifeOf old life → IsLiving program old life
+living_first program old life begins plan counts place = record {
   begun = life;
   begins = begins;
   plan = plan;
@@ -80,11 +77,9 @@ living_first text program old life reads begins plan counts place = record {
 }
 
 -- a turn more
-pub living_on : (text : List ℕ) (old : Station) (a b : Life) → IsLiving text old a → SameLife a b → MayUseImage a.kit.plan b.kit.plan
-    → IsLiving text old b
-living_on text old a b living same lines = record {
-  program = living.program;
-  reads = living.reads;
+pub living_on : (program : ProgramValue) (old : Station) (a b : Life) → IsLiving program old a → SameLife a b → MayUseImage a.kit.plan b.kit.plan
+    → IsLiving program old b
+living_on program old a b living same lines = record {
   begun = living.begun;
   begins = living.begins;
   plan = living.plan;
@@ -95,8 +90,8 @@ living_on text old a b living same lines = record {
 }
 
 -- in which no line is used
-pub living_same : (text : List ℕ) (old : Station) (a b : Life) → IsLiving text old a → SameLife a b → b.kit.plan ≡ a.kit.plan → IsLiving text old b
-living_same text old a b living same plan = living_on text old a b living same (inl plan)
+pub living_same : (program : ProgramValue) (old : Station) (a b : Life) → IsLiving program old a → SameLife a b → b.kit.plan ≡ a.kit.plan → IsLiving program old b
+living_same program old a b living same plan = living_on program old a b living same (inl plan)
 
 -- the lines of a whole life
 last_lines : (how : Ending) (first old new : List ScriptLine) → UsesImages first old → UsesLast how old new → UsesLines how first new
@@ -104,49 +99,49 @@ last_lines (ending.Crashed killed) first old new before used = kill_last first o
 last_lines (ending.Left reason) first old new before used = images_on first old new before used
 
 -- a life that went on is over, by a turn that ended it so
-pub life_over : (text : List ℕ) (old new : Station) (a b : Life) (how : Ending) → IsLiving text old a → SamePlace a b
+pub life_over : (program : ProgramValue) (old new : Station) (a b : Life) (how : Ending) → IsLiving program old a → SamePlace a b
     → UsesLast how a.kit.plan b.kit.plan → IsKilledAt how b.node.phase → b.kit.tally.crashes ≡ crashes_after how a.kit.tally.crashes
     → new.end ≡ end_after how b.kit.tally.is_spent b.node.phase → new.down ≡ stable_in b.node.phase → new.kit.plan ≡ b.kit.plan
     → new.kit.tally ≡ b.kit.tally → new.stood ≡ stood_after how b.node.phase → IsLifeOf new b
-    → SameStation old new × HasLived text old new
-life_over text old new a b how living same lines killed counted leaves down left tally stands of =
+    → SameStation old new × HasLived program old new
+life_over program old new a b how living same lines killed counted leaves down left tally stands of =
     let all = place_on living.begun a b living.same.0 same in (
       life_between old new living.begun b living.place all of,
-      has_lived text living.program old new living.begun b how living.reads living.begins living.plan living.counts all
+      has_lived program old new living.begun b how living.begins living.plan living.counts all
           (last_lines how living.begun.kit.plan a.kit.plan b.kit.plan living.lines lines) killed (counted ∙ ap (crashes_after how) living.same.1) leaves down left tally
           stands,
     )
 
 -- a rank that keeps its seat moves on
-pub moves_on : (text : List ℕ) (a b : Seat) → KeepsSeat text a b → MovesOn text a b
-moves_on text a b keeps first before = record { old = before.old; same = before.same; led = before.led; here = keeps before.old before.here }
+pub moves_on : (program : ProgramValue) (a b : Seat) → KeepsSeat program a b → MovesOn program a b
+moves_on program a b keeps first before = record { old = before.old; same = before.same; led = before.led; here = keeps before.old before.here }
 
 -- a rank that is seated between two lives
-seated_between : (text : List ℕ) (first now : Station) → SameStation first now → LeadsTo text first now → IsSeated text first (seat.Between now)
-seated_between text first now same led = record { old = now; same = same; led = led; here = refl }
+seated_between : (program : ProgramValue) (first now : Station) → SameStation first now → LeadsTo program first now → IsSeated program first (seat.Between now)
+seated_between program first now same led = record { old = now; same = same; led = led; here = refl }
 
 -- a rank whose lives are over was kept
-seated_gone : (text : List ℕ) (first now : Station) → IsSeated text first (seat.Gone now) → WasKept text first now
-seated_gone text first now seated = (station_on first seated.old now seated.same seated.here.0, seated.led now seated.here.1)
+seated_gone : (program : ProgramValue) (first now : Station) → IsSeated program first (seat.Gone now) → WasKept program first now
+seated_gone program first now seated = (station_on first seated.old now seated.same seated.here.0, seated.led now seated.here.1)
 
 -- a rank hasn't lived yet
-seated_first : (text : List ℕ) (first : Station) → IsSeated text first (seat.Between first)
-seated_first text first = seated_between text first first (station_same first) (λ end lives. lives)
+seated_first : (program : ProgramValue) (first : Station) → IsSeated program first (seat.Between first)
+seated_first program first = seated_between program first first (station_same first) (λ end lives. lives)
 
 -- a life is in its place
 pub place_same : (a : Life) → SamePlace a a
 place_same a = (refl, (record { desk = (refl, refl); rank = refl; size = refl }, refl), refl, refl)
 
 -- a life that went on at this seat is over, by a turn that ended it so
-pub seat_over : (text : List ℕ) (old : Station) (a b : Life) (how : Ending) (s : Seat) → IsBehind how b s → IsLiving text old a → SamePlace a b
+pub seat_over : (program : ProgramValue) (old : Station) (a b : Life) (how : Ending) (s : Seat) → IsBehind how b s → IsLiving program old a → SamePlace a b
     → UsesLast how a.kit.plan b.kit.plan → IsKilledAt how b.node.phase → b.kit.tally.crashes ≡ crashes_after how a.kit.tally.crashes
-    → IsSeat text old s
-seat_over text old a b how (seat.Between s) behind living same lines killed counted = absurd behind
-seat_over text old a b how (seat.Living other) behind living same lines killed counted = absurd behind
-seat_over text old a b how (seat.Over s) behind living same lines killed counted =
-    life_over text old s a b how living same lines killed counted behind.end behind.down behind.plan behind.tally behind.stood behind.same
-seat_over text old a b how (seat.Gone s) behind living same lines killed counted = absurd behind
-seat_over text old a b how seat.Empty behind living same lines killed counted = absurd behind
+    → IsSeat program old s
+seat_over program old a b how (seat.Between s) behind living same lines killed counted = absurd behind
+seat_over program old a b how (seat.Living other) behind living same lines killed counted = absurd behind
+seat_over program old a b how (seat.Over s) behind living same lines killed counted =
+    life_over program old s a b how living same lines killed counted behind.end behind.down behind.plan behind.tally behind.stood behind.same
+seat_over program old a b how (seat.Gone s) behind living same lines killed counted = absurd behind
+seat_over program old a b how seat.Empty behind living same lines killed counted = absurd behind
 
 -- a life that was taken away is over, and its rank is here behind it
 pub ends_taken : (how : Ending) (a b : Seat) (life : Life) (s : Station) → a ≡ seat.Living life → b ≡ seat.Over s → LeftBehind how life s → EndsAt how a b
@@ -166,26 +161,26 @@ none_ends how (seat.Gone s) may = absurd may
 none_ends how seat.Empty may = absurd may
 
 -- a life that couldn't begin is over
-pub life_failed : (text : List ℕ) (old new : Station) (life : Life) → IsLifeOf old life → IsLifeOf new life → is_some new.kit.tally.fault ≡ true
-    → SameStation old new × HasLived text old new
-life_failed text old new life begun over met = (life_between old new life life begun (place_same life) over, has_fault text old new met)
+pub life_failed : (program : ProgramValue) (old new : Station) (life : Life) → IsLifeOf old life → IsLifeOf new life → is_some new.kit.tally.fault ≡ true
+    → SameStation old new × HasLived program old new
+life_failed program old new life begun over met = (life_between old new life life begun (place_same life) over, has_fault program old new met)
 
 -- from where it stood between two lives
-pub moves_from : (text : List ℕ) (s : Station) (b : Seat) → IsSeat text s b → MovesOn text (seat.Between s) b
-moves_from text s b now first before =
-    record { old = before.old; same = before.same; led = before.led; here = subst (λ o. IsSeat text o b) before.here now }
+pub moves_from : (program : ProgramValue) (s : Station) (b : Seat) → IsSeat program s b → MovesOn program (seat.Between s) b
+moves_from program s b now first before =
+    record { old = before.old; same = before.same; led = before.led; here = subst (λ o. IsSeat program o b) before.here now }
 
 -- behind a life comes the next one
-pub followed_life : (text : List ℕ) (mid s : Station) → SameStation mid s → ((old : Station) → HasLived text old mid → LeadsTo text old s)
-    → MovesOn text (seat.Over mid) (seat.Between s)
-followed_life text mid s same follows first before =
-    seated_between text first s (station_on first mid s (station_on first before.old mid before.same before.here.0) same)
+pub followed_life : (program : ProgramValue) (mid s : Station) → SameStation mid s → ((old : Station) → HasLived program old mid → LeadsTo program old s)
+    → MovesOn program (seat.Over mid) (seat.Between s)
+followed_life program mid s same follows first before =
+    seated_between program first s (station_on first mid s (station_on first before.old mid before.same before.here.0) same)
     (λ end rest. before.led end (follows before.old before.here.1 end rest))
 
 -- or none
-pub followed_gone : (text : List ℕ) (mid s : Station) → SameStation mid s → ((old : Station) → HasLived text old mid → Lives text old s)
-    → MovesOn text (seat.Over mid) (seat.Gone s)
-followed_gone text mid s same follows first before = record {
+pub followed_gone : (program : ProgramValue) (mid s : Station) → SameStation mid s → ((old : Station) → HasLived program old mid → Lives program old s)
+    → MovesOn program (seat.Over mid) (seat.Gone s)
+followed_gone program mid s same follows first before = record {
   old = before.old;
   same = before.same;
   led = before.led;
@@ -203,39 +198,39 @@ some_of None e = absurd cc
 some_of (Some x) e = λ none. absurd cc
 
 -- one seat is changed
-pub set_seated : (text : List ℕ) (firsts : List Station) (seats : List Seat) (kept : List Station) (at : ℕ) (now other : Seat) → at < length seats
-    → MovesOn text (slice_index_or seats at other) now → AreSeatedBut text firsts seats kept → AreSeatedBut text firsts (slice_set seats at now) kept
-set_seated text firsts [] kept at now other low moves all = absurd (omega arith)
-set_seated text [] (s ∷ ss) kept at now other low moves all = absurd all
-set_seated text (x ∷ xs) (s ∷ ss) kept zero now other low moves all = (moves x all.0, all.1)
-set_seated text (x ∷ xs) (s ∷ ss) kept (suc k) now other low moves all =
-    (all.0, set_seated text xs ss kept k now other (omega (arith, low)) moves all.1)
+pub set_seated : (program : ProgramValue) (firsts : List Station) (seats : List Seat) (kept : List Station) (at : ℕ) (now other : Seat) → at < length seats
+    → MovesOn program (slice_index_or seats at other) now → AreSeatedBut program firsts seats kept → AreSeatedBut program firsts (slice_set seats at now) kept
+set_seated program firsts [] kept at now other low moves all = absurd (omega arith)
+set_seated program [] (s ∷ ss) kept at now other low moves all = absurd all
+set_seated program (x ∷ xs) (s ∷ ss) kept zero now other low moves all = (moves x all.0, all.1)
+set_seated program (x ∷ xs) (s ∷ ss) kept (suc k) now other low moves all =
+    (all.0, set_seated program xs ss kept k now other (omega (arith, low)) moves all.1)
 
 -- somebody is seated at each
-pub seated_at : (text : List ℕ) (firsts : List Station) (seats : List Seat) (kept : List Station) (at : ℕ) (other : Seat) → at < length seats
-    → AreSeatedBut text firsts seats kept → (first : Station) × IsSeated text first (slice_index_or seats at other)
-seated_at text firsts [] kept at other low all = absurd (omega arith)
-seated_at text [] (s ∷ ss) kept at other low all = absurd all
-seated_at text (x ∷ xs) (s ∷ ss) kept zero other low all = (x, all.0)
-seated_at text (x ∷ xs) (s ∷ ss) kept (suc k) other low all = seated_at text xs ss kept k other (omega (arith, low)) all.1
+pub seated_at : (program : ProgramValue) (firsts : List Station) (seats : List Seat) (kept : List Station) (at : ℕ) (other : Seat) → at < length seats
+    → AreSeatedBut program firsts seats kept → (first : Station) × IsSeated program first (slice_index_or seats at other)
+seated_at program firsts [] kept at other low all = absurd (omega arith)
+seated_at program [] (s ∷ ss) kept at other low all = absurd all
+seated_at program (x ∷ xs) (s ∷ ss) kept zero other low all = (x, all.0)
+seated_at program (x ∷ xs) (s ∷ ss) kept (suc k) other low all = seated_at program xs ss kept k other (omega (arith, low)) all.1
 
 -- at first all are between two lives
-pub all_seated : (text : List ℕ) (firsts : List Station) → AreSeated text firsts (map seat.Between firsts)
-all_seated text [] = tt
-all_seated text (x ∷ xs) = (seated_first text x, all_seated text xs)
+pub all_seated : (program : ProgramValue) (firsts : List Station) → AreSeated program firsts (map seat.Between firsts)
+all_seated program [] = tt
+all_seated program (x ∷ xs) = (seated_first program x, all_seated program xs)
 
 -- without seats all were kept
-pub but_none : (text : List ℕ) (firsts kept : List Station) → AreSeatedBut text firsts [] kept → WereKept text firsts kept
-but_none text [] kept all = all
-but_none text (x ∷ xs) kept all = all
+pub but_none : (program : ProgramValue) (firsts kept : List Station) → AreSeatedBut program firsts [] kept → WereKept program firsts kept
+but_none program [] kept all = all
+but_none program (x ∷ xs) kept all = all
 
 -- the last one gets up
-pub but_less : (text : List ℕ) (firsts : List Station) (seats : List Seat) (now : Station) (kept : List Station)
-    → AreSeatedBut text firsts (seats ++ seat.Gone now ∷ []) kept → AreSeatedBut text firsts seats (now ∷ kept)
-but_less text [] [] now kept all = absurd all
-but_less text [] (s ∷ ss) now kept all = absurd all
-but_less text (x ∷ xs) [] now kept all = (seated_gone text x now all.0, but_none text xs kept all.1)
-but_less text (x ∷ xs) (s ∷ ss) now kept all = (all.0, but_less text xs ss now kept all.1)
+pub but_less : (program : ProgramValue) (firsts : List Station) (seats : List Seat) (now : Station) (kept : List Station)
+    → AreSeatedBut program firsts (seats ++ seat.Gone now ∷ []) kept → AreSeatedBut program firsts seats (now ∷ kept)
+but_less program [] [] now kept all = absurd all
+but_less program [] (s ∷ ss) now kept all = absurd all
+but_less program (x ∷ xs) [] now kept all = (seated_gone program x now all.0, but_none program xs kept all.1)
+but_less program (x ∷ xs) (s ∷ ss) now kept all = (all.0, but_less program xs ss now kept all.1)
 
 -- all but the last one are gone, if all are
 pub gone_less : (seats : List Seat) (s : Seat) → AreGone (seats ++ s ∷ []) → AreGone seats

@@ -4,6 +4,7 @@ use Rattle.std.proofs.lemmas.List.{map-append, append_assoc}
 use Rattle.ports.specs.Lanes.{TxValue, RxValue, lane_to, lane_from}
 use Rattle.ports.specs.AllLanes.{to_names, from_names}
 use Rattle.event_logger.specs.Desks.{DeskValue, LoggerValue, AreDesks}
+use Rattle.rank_language.specs.Program.{ProgramValue}
 use Rattle.rank_threads.specs.Keeping.{WereKept}
 use Rattle.rank_threads.specs.Seating.{AreDesksFrom, AreNew, desks_of, lanes_from, lanes_to}
 use Rattle.rank_threads.specs.Stations.{IsNew, stations_of}
@@ -44,34 +45,34 @@ module _ {A : Type 0} where
   from_snoc from one = map-append (λ (ends : Vec RxValue A). map lane_from ends.items) from (one ∷ [])
 
 -- what stays of stations that were kept: their number
-pub kept_length : (text : List ℕ) (a b : List Station) → WereKept text a b → length b ≡ length a
-kept_length text [] [] kept = refl
-kept_length text [] (y ∷ ys) kept = absurd kept
-kept_length text (x ∷ xs) [] kept = absurd kept
-kept_length text (x ∷ xs) (y ∷ ys) kept = ap suc (kept_length text xs ys kept.1)
+pub kept_length : (program : ProgramValue) (a b : List Station) → WereKept program a b → length b ≡ length a
+kept_length program [] [] kept = refl
+kept_length program [] (y ∷ ys) kept = absurd kept
+kept_length program (x ∷ xs) [] kept = absurd kept
+kept_length program (x ∷ xs) (y ∷ ys) kept = ap suc (kept_length program xs ys kept.1)
 
 -- the lanes into which they put
-pub kept_to : (text : List ℕ) (a b : List Station) → WereKept text a b → lanes_to b ≡ lanes_to a
-kept_to text [] [] kept = refl
-kept_to text [] (y ∷ ys) kept = absurd kept
-kept_to text (x ∷ xs) [] kept = absurd kept
-kept_to text (x ∷ xs) (y ∷ ys) kept = rw (kept_to text xs ys kept.1, kept.0.0.3) refl
+pub kept_to : (program : ProgramValue) (a b : List Station) → WereKept program a b → lanes_to b ≡ lanes_to a
+kept_to program [] [] kept = refl
+kept_to program [] (y ∷ ys) kept = absurd kept
+kept_to program (x ∷ xs) [] kept = absurd kept
+kept_to program (x ∷ xs) (y ∷ ys) kept = rw (kept_to program xs ys kept.1, kept.0.0.3) refl
 
 -- the lanes from which they take
-pub kept_from : (text : List ℕ) (a b : List Station) → WereKept text a b → lanes_from b ≡ lanes_from a
-kept_from text [] [] kept = refl
-kept_from text [] (y ∷ ys) kept = absurd kept
-kept_from text (x ∷ xs) [] kept = absurd kept
-kept_from text (x ∷ xs) (y ∷ ys) kept = rw (kept_from text xs ys kept.1, kept.0.0.4) refl
+pub kept_from : (program : ProgramValue) (a b : List Station) → WereKept program a b → lanes_from b ≡ lanes_from a
+kept_from program [] [] kept = refl
+kept_from program [] (y ∷ ys) kept = absurd kept
+kept_from program (x ∷ xs) [] kept = absurd kept
+kept_from program (x ∷ xs) (y ∷ ys) kept = rw (kept_from program xs ys kept.1, kept.0.0.4) refl
 
 -- and whose desks they have
-pub kept_desks : (text : List ℕ) (logger : LoggerValue) (first : ℕ) (a b : List Station) → WereKept text a b
+pub kept_desks : (program : ProgramValue) (logger : LoggerValue) (first : ℕ) (a b : List Station) → WereKept program a b
     → AreDesksFrom logger first (desks_of a) → AreDesksFrom logger first (desks_of b)
-kept_desks text logger first [] [] kept all = tt
-kept_desks text logger first [] (y ∷ ys) kept all = absurd kept
-kept_desks text logger first (x ∷ xs) [] kept all = absurd kept
-kept_desks text logger first (x ∷ xs) (y ∷ ys) kept all =
-    (kept.0.0.1.desk.0 ∙ all.0, kept.0.0.1.desk.1 ∙ all.1, kept_desks text logger (first + 1) xs ys kept.1 all.2)
+kept_desks program logger first [] [] kept all = tt
+kept_desks program logger first [] (y ∷ ys) kept all = absurd kept
+kept_desks program logger first (x ∷ xs) [] kept all = absurd kept
+kept_desks program logger first (x ∷ xs) (y ∷ ys) kept all =
+    (kept.0.0.1.desk.0 ∙ all.0, kept.0.0.1.desk.1 ∙ all.1, kept_desks program logger (first + 1) xs ys kept.1 all.2)
 
 -- desks in rank order, one after another, are desks in rank order, each at its place
 desks_at : (logger : LoggerValue) (first : ℕ) (ds : List DeskValue) → AreDesksFrom logger first ds → (k : ℕ) (d : DeskValue) → k < length ds

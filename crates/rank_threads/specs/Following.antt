@@ -1,6 +1,7 @@
 -- What follows a life (an incarnation) of a rank: its next one, which begins with the row that was
 -- fetched, or none.
-use Rattle.std.specs.Prelude.{◌≢◌, ℕ, List, None}
+use Rattle.std.specs.Prelude.{◌≢◌, None}
+use Rattle.rank_language.specs.Program.{ProgramValue}
 use Rattle.rank_threads.specs.Dropping.{DropsAll}
 use Rattle.rank_threads.specs.Keeping.{HasLived, Lives}
 use Rattle.rank_threads.specs.Seats.{LeadsTo}
@@ -20,6 +21,6 @@ LosesFrames mid (next.Gone s) = Unit {0}
 
 -- A life that was lived from some station to the first is followed so: from there on the next lives
 -- are lived, or the rank has come to its end.
-abbrev pub Follows : List ℕ → Station → Next → Type 0
-Follows text mid (next.Life s) = (old : Station) → HasLived text old mid → LeadsTo text old s
-Follows text mid (next.Gone s) = (s.end ≢ None) × ((old : Station) → HasLived text old mid → Lives text old s)
+abbrev pub Follows : ProgramValue → Station → Next → Type 0
+Follows program mid (next.Life s) = (old : Station) → HasLived program old mid → LeadsTo program old s
+Follows program mid (next.Gone s) = (s.end ≢ None) × ((old : Station) → HasLived program old mid → Lives program old s)

@@ -6,7 +6,6 @@
 use Rattle.std.specs.Prelude.{◌≡◌, ◌≢◌, ℕ, List, [], ◌∷◌, Some, None}
 use Rattle.audit.specs.declared.outcome.End.TheVariants as end
 use Rattle.event_logger.specs.Desks.{own_row}
-use Rattle.rank_language.specs.Correct.{IsProgramOf}
 use Rattle.rank_language.specs.Program.{ProgramValue}
 use Rattle.rank_node.specs.Phases.{stable_in}
 use Rattle.rank_threads.specs.Endings.{IsKilledAt, crashes_by, end_after, stood_after}
@@ -18,15 +17,13 @@ use Rattle.rank_threads.specs.declared.life.ending.Ending.{Ending}
 use Rattle.rank_threads.specs.declared.life.Life.{Life}
 use Rattle.rank_threads.specs.declared.life.station.Station.{Station}
 
--- One life of a rank that reads this text, from one station to another. It begins at the first,
--- with the program of the text, and with the row, the lines of the script and the counts that this
--- station has. It uses lines that ask for images, and ends by the script's next kill, at that
--- kill's clock, or as the rank leaves. A crash is counted, and nothing else is counted as one. How
--- the rank stood then is noted, how many steps it had made, and whether a limit had stopped it. What
--- is stable outlives it: the shelf with the rank's images, and the events that are stored of it.
-pub record IsLife (text : List ℕ) (old new : Station) : Type 0 where
-  pub program : ProgramValue
-  pub reads : IsProgramOf text program
+-- One life of a rank of this program, from one station to another. It begins at the first, with the
+-- row, the lines of the script and the counts that this station has. It uses lines that ask for
+-- images, and ends by the script's next kill, at that kill's clock, or as the rank leaves. A crash is
+-- counted, and nothing else is counted as one. How the rank stood then is noted, how many steps it
+-- had made, and whether a limit had stopped it. What is stable outlives it: the shelf with the rank's
+-- images, and the events that are stored of it.
+pub record IsLife (program : ProgramValue) (old new : Station) : Type 0 where
   pub begun : Life
   pub begins : Begins program old.down old.row begun.node.phase
   pub plan : begun.kit.plan ≡ old.kit.plan
@@ -46,8 +43,8 @@ pub record IsLife (text : List ℕ) (old new : Station) : Type 0 where
   pub crashes : new.kit.tally.crashes ≡ crashes_by new.end old.kit.tally.crashes
 
 -- A life was lived. Nothing is said if the rank met a fault.
-abbrev pub HasLived : List ℕ → Station → Station → Type 0
-HasLived text old new = new.kit.tally.fault ≡ None → IsLife text old new
+abbrev pub HasLived : ProgramValue → Station → Station → Type 0
+HasLived program old new = new.kit.tally.fault ≡ None → IsLife program old new
 
 -- The rank was told to leave, and lives no more: it is unfinished, and all that is counted stays,
 -- and how it stood when its last life ended.
@@ -57,25 +54,25 @@ pub record IsToldToLeave (old new : Station) : Type 0 where
   pub counts : new.kit.tally ≡ old.kit.tally
   pub stands : new.stood ≡ old.stood
 
--- The lives of a rank that reads this text, one after another: it was told to leave; or it has a
+-- The lives of a rank of this program, one after another: it was told to leave; or it has a
 -- fault, with which its lives end, and which is still there; or it lived without one, and left; or
 -- it lived without one and crashed, and its next lives begin at the station that this left, with
 -- the row that was fetched.
-pub data Lives (text : List ℕ) : Station → Station → Type 0 where
-  told : {old new : Station} → IsToldToLeave old new → Lives text old new
-  failed : {old new : Station} → new.kit.tally.fault ≢ None → Lives text old new
-  last : {old new : Station} → IsLife text old new → new.kit.tally.fault ≡ None → new.end ≢ None → Lives text old new
-  again : {old mid new : Station} → IsLife text old mid → mid.kit.tally.fault ≡ None → mid.end ≡ None → HasRow mid → Lives text mid new
-      → Lives text old new
+pub data Lives (program : ProgramValue) : Station → Station → Type 0 where
+  told : {old new : Station} → IsToldToLeave old new → Lives program old new
+  failed : {old new : Station} → new.kit.tally.fault ≢ None → Lives program old new
+  last : {old new : Station} → IsLife program old new → new.kit.tally.fault ≡ None → new.end ≢ None → Lives program old new
+  again : {old mid new : Station} → IsLife program old mid → mid.kit.tally.fault ≡ None → mid.end ≡ None → HasRow mid → Lives program mid new
+      → Lives program old new
 
 -- A keeper has had this station: rank, desk and lanes are the same, and the rank has lived from it
 -- on.
-abbrev pub WasKept : List ℕ → Station → Station → Type 0
-WasKept text old new = SameStation old new × Lives text old new
+abbrev pub WasKept : ProgramValue → Station → Station → Type 0
+WasKept program old new = SameStation old new × Lives program old new
 
 -- so has each of these stations, in the same order
-abbrev pub WereKept : List ℕ → List Station → List Station → Type 0
-WereKept text [] [] = Unit {0}
-WereKept text [] (y ∷ ys) = ⊥
-WereKept text (x ∷ xs) [] = ⊥
-WereKept text (x ∷ xs) (y ∷ ys) = WasKept text x y × WereKept text xs ys
+abbrev pub WereKept : ProgramValue → List Station → List Station → Type 0
+WereKept program [] [] = Unit {0}
+WereKept program [] (y ∷ ys) = ⊥
+WereKept program (x ∷ xs) [] = ⊥
+WereKept program (x ∷ xs) (y ∷ ys) = WasKept program x y × WereKept program xs ys

@@ -3,7 +3,6 @@
 -- Source: coroutines, Conway 1963; simulation of a distributed system by one thread that a seed
 -- decides, Zhou et al. 2021, "FoundationDB: A Distributed Unbundled Transactional Key Value Store".
 use Rattle.std.specs.Prelude.{◌≡◌, ℕ, ◌<◌, Bool, true, false, List, [], ◌∷◌, length, slice_index_or}
-use Rattle.rank_language.specs.Correct.{IsProgramOf}
 use Rattle.rank_language.specs.Program.{ProgramValue}
 use Rattle.rank_node.specs.Phases.{settled_in, stable_in}
 use Rattle.rank_text.specs.declared.script.line.ScriptLine.{ScriptLine}
@@ -22,12 +21,10 @@ use Rattle.rank_threads.specs.declared.life.seat.Seat.{Seat}
 use Rattle.rank_threads.specs.declared.life.seat.Seat.TheVariants as seat
 use Rattle.rank_threads.specs.declared.life.station.Station.{Station}
 
--- One life of a rank that reads this text, as it goes on. It began at this station, with the program
--- of the text, and with the row, the lines of the script and the counts that the station has. It has
--- used lines that ask for images, and no crash was counted in it.
-pub record IsLiving (text : List ℕ) (old : Station) (life : Life) : Type 0 where
-  pub program : ProgramValue
-  pub reads : IsProgramOf text program
+-- One life of a rank of this program, as it goes on. It began at this station, with the row, the lines
+-- of the script and the counts that the station has. It has used lines that ask for images, and no
+-- crash was counted in it.
+pub record IsLiving (program : ProgramValue) (old : Station) (life : Life) : Type 0 where
   pub begun : Life
   pub begins : Begins program old.down old.row begun.node.phase
   pub plan : begun.kit.plan ≡ old.kit.plan
@@ -38,44 +35,44 @@ pub record IsLiving (text : List ℕ) (old : Station) (life : Life) : Type 0 whe
 
 -- The rank of this station, as it was between two lives, is at this seat: its next life hasn't begun,
 -- or goes on, or is over, or the rank lives no more.
-abbrev pub IsSeat : List ℕ → Station → Seat → Type 0
-IsSeat text old (seat.Between s) = s ≡ old
-IsSeat text old (seat.Living life) = IsLiving text old life
-IsSeat text old (seat.Over s) = SameStation old s × HasLived text old s
-IsSeat text old (seat.Gone s) = SameStation old s × Lives text old s
-IsSeat text old seat.Empty = ⊥
+abbrev pub IsSeat : ProgramValue → Station → Seat → Type 0
+IsSeat program old (seat.Between s) = s ≡ old
+IsSeat program old (seat.Living life) = IsLiving program old life
+IsSeat program old (seat.Over s) = SameStation old s × HasLived program old s
+IsSeat program old (seat.Gone s) = SameStation old s × Lives program old s
+IsSeat program old seat.Empty = ⊥
 
 -- whoever was at this seat still is, in the same life or behind it
-abbrev pub KeepsSeat : List ℕ → Seat → Seat → Type 0
-KeepsSeat text a b = (old : Station) → IsSeat text old a → IsSeat text old b
+abbrev pub KeepsSeat : ProgramValue → Seat → Seat → Type 0
+KeepsSeat program a b = (old : Station) → IsSeat program old a → IsSeat program old b
 
 -- lives from this station on are lives from that one on, behind those so far
-abbrev pub LeadsTo : List ℕ → Station → Station → Type 0
-LeadsTo text first now = (end : Station) → Lives text now end → Lives text first end
+abbrev pub LeadsTo : ProgramValue → Station → Station → Type 0
+LeadsTo program first now = (end : Station) → Lives program now end → Lives program first end
 
 -- The rank that was first at this station is at this seat: it has lived from there on, life after
 -- life, and stood between two of them as the seat says.
-pub record IsSeated (text : List ℕ) (first : Station) (s : Seat) : Type 0 where
+pub record IsSeated (program : ProgramValue) (first : Station) (s : Seat) : Type 0 where
   pub old : Station
   pub same : SameStation first old
-  pub led : LeadsTo text first old
-  pub here : IsSeat text old s
+  pub led : LeadsTo program first old
+  pub here : IsSeat program old s
 
 -- whoever was at this seat still is, whichever life it is in
-abbrev pub MovesOn : List ℕ → Seat → Seat → Type 0
-MovesOn text a b = (first : Station) → IsSeated text first a → IsSeated text first b
+abbrev pub MovesOn : ProgramValue → Seat → Seat → Type 0
+MovesOn program a b = (first : Station) → IsSeated program first a → IsSeated program first b
 
 -- The ranks that were first at these stations are at these seats, in the same order, but for those
 -- of the last stations, which were kept already.
-abbrev pub AreSeatedBut : List ℕ → List Station → List Seat → List Station → Type 0
-AreSeatedBut text [] [] kept = WereKept text [] kept
-AreSeatedBut text [] (s ∷ ss) kept = ⊥
-AreSeatedBut text (x ∷ xs) [] kept = WereKept text (x ∷ xs) kept
-AreSeatedBut text (x ∷ xs) (s ∷ ss) kept = IsSeated text x s × AreSeatedBut text xs ss kept
+abbrev pub AreSeatedBut : ProgramValue → List Station → List Seat → List Station → Type 0
+AreSeatedBut program [] [] kept = WereKept program [] kept
+AreSeatedBut program [] (s ∷ ss) kept = ⊥
+AreSeatedBut program (x ∷ xs) [] kept = WereKept program (x ∷ xs) kept
+AreSeatedBut program (x ∷ xs) (s ∷ ss) kept = IsSeated program x s × AreSeatedBut program xs ss kept
 
 -- the ranks that were first at these stations are at these seats, in the same order
-abbrev pub AreSeated : List ℕ → List Station → List Seat → Type 0
-AreSeated text firsts seats = AreSeatedBut text firsts seats []
+abbrev pub AreSeated : ProgramValue → List Station → List Seat → Type 0
+AreSeated program firsts seats = AreSeatedBut program firsts seats []
 
 -- the rank at this seat is in a life
 abbrev pub is_living : Seat → Bool

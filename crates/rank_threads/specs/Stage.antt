@@ -1,18 +1,15 @@
 -- What is made ready for a run before it has an event logger.
 use Rattle.std.specs.Prelude.{◌≡◌, ℕ, ◌≤◌, List, [], vec_len, vec_capacity}
 use Rattle.ports.specs.AllLanes.{AreCrossed}
-use Rattle.rank_language.specs.Correct.{IsProgramOf}
-use Rattle.rank_language.specs.Program.{ProgramValue}
 use Rattle.rank_text.specs.declared.script.line.ScriptLine.{ScriptLine}
 use Rattle.rank_threads.specs.Plans.{plans_below}
 use Rattle.rank_threads.specs.Seating.{IsRoom}
 use Rattle.rank_threads.specs.declared.stage.Stage.{Stage}
 
 module _ {W : Type 0} where
-  -- a text of the program, the lanes between so many ranks, the lines of the script that are for
-  -- each, and room for what each leaves
-  pub record IsStage (program : ProgramValue) (ranks : ℕ) (script : List ScriptLine) (stage : Stage W) : Type 0 where
-    pub text : IsProgramOf stage.text.items program
+  -- the lanes between so many ranks, the lines of the script that are for each, and room for what each
+  -- leaves
+  pub record IsStage (ranks : ℕ) (script : List ScriptLine) (stage : Stage W) : Type 0 where
     pub plans : stage.plans.items ≡ plans_below ranks script
     pub planned : vec_len stage.plans ≡ ranks
     pub crossed : AreCrossed stage.ends.to.items stage.ends.from.items

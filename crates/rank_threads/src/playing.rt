@@ -41,7 +41,6 @@ pub struct Played {
 
 /// What ranks share as long as they are kept, which is none of theirs.
 pub struct Ground {
-    text: Vec<u8, Heap>,
     console: Console,
     marks: Vec<CachePadded<Mark>, Heap>,
     bells: Vec<CachePadded<AtomicBool>, Heap>,
@@ -58,12 +57,18 @@ pub struct SetOut<'l, W: Wait + Drop> {
 }
 
 impl Ground {
-    fn shared<'a, H>(&'a self, alloc: Heap, hold: &'a H, limits: RunLimits) -> Shared<'a, H>
-        ensures { result.text.now ≡ self.now.text.items }
+    fn shared<'a, H>(
+        &'a self,
+        alloc: Heap,
+        program: &'a Program,
+        hold: &'a H,
+        limits: RunLimits,
+    ) -> Shared<'a, H>
+        ensures { result.program.now ≡ program.entry.now }
     {
         Shared {
             alloc,
-            text: self.text.as_slice(),
+            program,
             hold,
             limits,
             console: &self.console,
@@ -80,7 +85,7 @@ impl Ground {
 pub fn play<'l, R: Threads + Wait + Sync + Copy + Send, H: Hold + Sync>(
     rt: R,
     alloc: Heap,
-    _program: &Program,
+    program: &Program,
     size: u8,
     _script: &Script,
     limits: RunLimits,
@@ -90,12 +95,12 @@ pub fn play<'l, R: Threads + Wait + Sync + Copy + Send, H: Hold + Sync>(
     desks: Vec<Desk, Heap>,
 ) -> (Played, Vec<Desk, Heap>)
     requires few { size ≤ most_ranks }
-    requires stage { IsStage _program.now size _script.now stage }
+    requires stage { IsStage size _script.now stage }
     requires ranks { logger.now.ranks ≡ size }
     requires desks { AreDesks logger.now.table desks.items }
     requires a_desk_each { vec_len desks ≡ size }
     requires new { desks.items ≡ desks_below logger.now.table size }
-    ensures played { IsPlayed _program.now size _script.now logger.now result.1.items result.0 }
+    ensures played { IsPlayed program.entry.now size _script.now logger.now result.1.items result.0 }
     ensures desks { AreDesks logger.now.table result.1.items }
     ensures a_desk_each { vec_len result.1 ≡ size }
 {
@@ -103,13 +108,13 @@ pub fn play<'l, R: Threads + Wait + Sync + Copy + Send, H: Hold + Sync>(
         ground,
         stations,
         room,
-    } = set_out(rt, alloc, _program, size, _script, stage, logger, desks);
+    } = set_out(rt, alloc, size, _script, stage, logger, desks);
     let begun = Snapshot::of(&stations);
-    let shared = ground.shared(alloc, hold, limits);
+    let shared = ground.shared(alloc, program, hold, limits);
     let stations = keep_all(rt, &shared, stations);
     drop(shared);
     clear_away(
-        _program, size, _script, logger, begun, ground, stations, room,
+        program, size, _script, logger, begun, ground, stations, room,
     )
 }
 
@@ -131,7 +136,7 @@ pub fn play_by_turns<'p, 'l, W: Wait + Drop + Copy, H: Hold>(
     desks: Vec<Desk, Heap>,
 ) -> (Played, Vec<Desk, Heap>, Option<OutOfTurns>)
     requires few { size ≤ most_ranks }
-    requires stage { IsStage program.now size _script.now stage }
+    requires stage { IsStage size _script.now stage }
     requires ranks { logger.now.ranks ≡ size }
     requires desks { AreDesks logger.now.table desks.items }
     requires a_desk_each { vec_len desks ≡ size }
@@ -146,10 +151,10 @@ pub fn play_by_turns<'p, 'l, W: Wait + Drop + Copy, H: Hold>(
         ground,
         stations,
         room,
-    } = set_out(rt, alloc, program, size, _script, stage, logger, desks);
+    } = set_out(rt, alloc, size, _script, stage, logger, desks);
     let begun = Snapshot::of(&stations);
-    let shared = ground.shared(alloc, hold, limits);
-    let (stations, spent) = keep_by_turns(rt, &shared, program, schedule, stations, seats);
+    let shared = ground.shared(alloc, program, hold, limits);
+    let (stations, spent) = keep_by_turns(rt, &shared, schedule, stations, seats);
     drop(shared);
     let (played, desks) = clear_away(
         program, size, _script, logger, begun, ground, stations, room,
@@ -162,7 +167,6 @@ pub fn play_by_turns<'p, 'l, W: Wait + Drop + Copy, H: Hold>(
 fn set_out<'l, W: Wait + Drop + Copy>(
     rt: W,
     alloc: Heap,
-    _program: &Program,
     size: u8,
     _script: &Script,
     stage: Stage<'l, W>,
@@ -170,17 +174,16 @@ fn set_out<'l, W: Wait + Drop + Copy>(
     desks: Vec<Desk, Heap>,
 ) -> SetOut<'l, W>
     requires few { size ≤ most_ranks }
-    requires stage { IsStage _program.now size _script.now stage }
+    requires stage { IsStage size _script.now stage }
     requires ranks { logger.now.ranks ≡ size }
     requires desks { AreDesks logger.now.table desks.items }
     requires a_desk_each { vec_len desks ≡ size }
     requires new { desks.items ≡ desks_below logger.now.table size }
-    ensures out { IsSetOut _program.now size _script.now logger.now result.ground.text.items (stations_of result.stations.items) }
+    ensures out { IsSetOut size _script.now logger.now (stations_of result.stations.items) }
     ensures len { vec_len result.stations ≡ size }
     ensures room { IsRoom size result.room }
 {
     let Stage {
-        text,
         console,
         marks,
         bells,
@@ -193,7 +196,6 @@ fn set_out<'l, W: Wait + Drop + Copy>(
     let script = Snapshot::of(_script);
     let stations = seat_all(rt, alloc, logger, size, script, parts, stations);
     let ground = Ground {
-        text,
         console,
         marks,
         bells,
@@ -218,8 +220,8 @@ fn clear_away<'l, W: Wait + Drop + Copy>(
     stations: Vec<Parcel<'l, W>, Heap>,
     room: Remains,
 ) -> (Played, Vec<Desk, Heap>)
-    requires out { IsSetOut _program.now size _script.now _logger.now ground.text.items (stations_of _begun.value.items) }
-    requires kept { WereKept ground.text.items (stations_of _begun.value.items) (stations_of stations.items) }
+    requires out { IsSetOut size _script.now _logger.now (stations_of _begun.value.items) }
+    requires kept { WereKept _program.now (stations_of _begun.value.items) (stations_of stations.items) }
     requires len { vec_len stations ≡ size }
     requires room { IsRoom size room }
     ensures played { IsPlayed _program.now size _script.now _logger.now result.1.items result.0 }
@@ -227,7 +229,6 @@ fn clear_away<'l, W: Wait + Drop + Copy>(
     ensures a_desk_each { vec_len result.1 ≡ size }
 {
     let Ground {
-        text: _,
         console,
         marks: _,
         bells: _,

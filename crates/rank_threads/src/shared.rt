@@ -6,6 +6,7 @@ use crate::running::RunLimits;
 use crossbeam_utils::CachePadded;
 use limits::Heap;
 use ports::Console;
+use rank_language::Program;
 use std::sync::OnceLock;
 use std::sync::atomic::{AtomicBool, Ordering};
 
@@ -30,11 +31,10 @@ pub struct ClearedMark(());
 #[derive(Clone, Copy)]
 pub struct NoRing(());
 
-/// What all ranks share. Of each rank there is a mark and a bell.
+/// What all ranks share. The program never changes. Of each rank there is a mark and a bell.
 pub struct Shared<'a, H> {
     pub alloc: Heap,
-    /// The program's canonical text.
-    pub text: &'a [u8],
+    pub program: &'a Program,
     pub hold: &'a H,
     pub limits: RunLimits,
     pub console: &'a Console,
@@ -50,7 +50,7 @@ impl<H> Drop for Shared<'_, H> {
     fn drop(self) {
         let Shared {
             alloc: _,
-            text: _,
+            program: _,
             hold: _,
             limits: _,
             console: _,

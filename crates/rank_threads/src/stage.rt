@@ -10,7 +10,6 @@ use crate::plan::Plan;
 use crossbeam_utils::CachePadded;
 use limits::Heap;
 use ports::{Console, Ends, open_all};
-use rank_language::Program;
 use rank_text::script::Script;
 use std::alloc::AllocError;
 use std::sync::Wait;
@@ -19,8 +18,6 @@ use std::sync::atomic::AtomicBool;
 /// All that a run needs before it has an event logger: what ranks share, their
 /// lanes, and room for their stations and for what these leave.
 pub struct Stage<'l, W: Wait + Drop> {
-    /// The program's canonical text.
-    pub text: Vec<u8, Heap>,
     pub console: Console,
     pub marks: Vec<CachePadded<Mark>, Heap>,
     pub bells: Vec<CachePadded<AtomicBool>, Heap>,
@@ -33,15 +30,9 @@ pub struct Stage<'l, W: Wait + Drop> {
 
 impl<'l, W: Wait + Drop> Stage<'l, W> {
     /// Makes all of it ready for so many ranks. An `Err` is refused memory.
-    pub fn new(
-        alloc: Heap,
-        program: &Program,
-        ranks: u8,
-        script: &Script,
-    ) -> Result<Stage<'l, W>, AllocError>
-        ensures { IfOk result (λ stage. IsStage program.now ranks script.now stage) }
+    pub fn new(alloc: Heap, ranks: u8, script: &Script) -> Result<Stage<'l, W>, AllocError>
+        ensures { IfOk result (λ stage. IsStage ranks script.now stage) }
     {
-        let text = program.print(alloc)?;
         let console = Console::new(alloc, ranks)?;
         let marks = marks(alloc, ranks)?;
         let bells = bells(alloc, ranks)?;
@@ -50,7 +41,6 @@ impl<'l, W: Wait + Drop> Stage<'l, W> {
         let stations = Vec::with_capacity(alloc, usize::from(ranks))?;
         let room = room(alloc, ranks)?;
         Ok(Stage {
-            text,
             console,
             marks,
             bells,
@@ -66,7 +56,6 @@ impl<'l, W: Wait + Drop> Stage<'l, W> {
         requires { self.room.desks.items ≡ [] }
     {
         let Stage {
-            text: _,
             console: _,
             marks: _,
             bells: _,

@@ -23,7 +23,7 @@ pub fn keep_all<'p, R: Threads + Wait + Sync + Copy + Send, H: Hold + Sync>(
     shared: &Shared<'_, H>,
     stations: Vec<Parcel<'p, R>, Heap>,
 ) -> Vec<Parcel<'p, R>, Heap>
-    ensures kept { WereKept shared.now.text.now (stations_of stations.entry.items) (stations_of result.items) }
+    ensures kept { WereKept shared.now.program.now (stations_of stations.entry.items) (stations_of result.items) }
     ensures len { vec_len result ≡ vec_len stations.entry }
     ensures room { vec_capacity result ≡ vec_capacity stations.entry }
 {
@@ -40,7 +40,7 @@ fn keep_in_parcel<'p, R: Threads + Wait + Sync + Copy + Send, H: Hold + Sync>(
     shared: &Shared<'_, H>,
     parcel: Parcel<'p, R>,
 ) -> Parcel<'p, R>
-    ensures { WasKept shared.now.text.now parcel.entry.station result.station }
+    ensures { WasKept shared.now.program.now parcel.entry.station result.station }
 {
     let rt = parcel.rt;
     let station = keep(rt, shared, parcel.open());
@@ -55,8 +55,8 @@ fn spawn_keeper<'p, R: Threads + Wait + Sync + Copy + Send, H: Hold + Sync>(
     parcel: Parcel<'p, R>,
     rest: Vec<Parcel<'p, R>, Heap>,
 ) -> (Parcel<'p, R>, Vec<Parcel<'p, R>, Heap>)
-    ensures one { WasKept shared.now.text.now parcel.entry.station result.0.station }
-    ensures kept { WereKept shared.now.text.now (stations_of rest.entry.items) (stations_of result.1.items) }
+    ensures one { WasKept shared.now.program.now parcel.entry.station result.0.station }
+    ensures kept { WereKept shared.now.program.now (stations_of rest.entry.items) (stations_of result.1.items) }
     ensures len { vec_len result.1 ≡ vec_len rest.entry }
     ensures room { vec_capacity result.1 ≡ vec_capacity rest.entry }
 {
@@ -64,14 +64,14 @@ fn spawn_keeper<'p, R: Threads + Wait + Sync + Copy + Send, H: Hold + Sync>(
         thread::scope_env(),
         &rt,
         move |scope| -> (Parcel<'_, R>, Vec<Parcel<'_, R>, Heap>)
-            ensures one { WasKept shared.entry.now.text.now parcel.entry.station result.0.station }
-            ensures kept { WereKept shared.entry.now.text.now (stations_of rest.entry.items) (stations_of result.1.items) }
+            ensures one { WasKept shared.entry.now.program.now parcel.entry.station result.0.station }
+            ensures kept { WereKept shared.entry.now.program.now (stations_of rest.entry.items) (stations_of result.1.items) }
             ensures len { vec_len result.1 ≡ vec_len rest.entry }
             ensures room { vec_capacity result.1 ≡ vec_capacity rest.entry }
         {
-            let promise = AfterLives(Snapshot::of(&parcel.station), Snapshot::of(&shared.text));
+            let promise = AfterLives(Snapshot::of(&parcel.station), Snapshot::of(&shared.program));
             let whole = move || -> Parcel<'_, R>
-                ensures { WasKept shared.entry.now.text.now parcel.entry.station result.station }
+                ensures { WasKept shared.entry.now.program.now parcel.entry.station result.station }
             { keep_in_parcel(shared, parcel) };
             match scope.spawn_with(promise, whole) {
                 Ok(child) => {

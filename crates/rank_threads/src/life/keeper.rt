@@ -6,11 +6,11 @@ ghost use Rattle.rank_node.specs.declared.fault.NodeFault.TheVariants.{Memory};
 ghost use Rattle.rank_threads.specs.Dropping.{DropsAll};
 ghost use Rattle.rank_threads.specs.Following.{Follows, LosesFrames, station_in};
 ghost use Rattle.rank_threads.specs.Keeping.{HasLived, IsToldToLeave, Lives};
-ghost use Rattle.rank_threads.specs.Stations.{SameStation, HasRow};
+ghost use Rattle.rank_threads.specs.Stations.{SameRest, SameStation, HasRow};
 ghost use Rattle.rank_threads.specs.Tally.{begun_again};
 
 use super::dropping::drop_frames;
-use super::living::{refuse_life, run_life};
+use super::living::run_life;
 use super::parcel::{AfterLife, Parcel};
 use super::station::Station;
 use crate::hold::Hold;
@@ -32,7 +32,7 @@ pub fn keep<'l, R: Threads + Wait + Sync + Copy + Send, H: Hold + Sync>(
     station: Station<'l>,
 ) -> Station<'l>
     ensures ended { result.end ≢ None }
-    ensures lives { Lives shared.now.text.now station.entry result }
+    ensures lives { Lives shared.now.program.now station.entry result }
     ensures same { SameStation station.entry result }
 {
     let mut station = station;
@@ -59,7 +59,7 @@ pub enum Next<'l> {
 /// What follows a life from which the rank came back so. Where it crashed, its row
 /// is fetched for the next life; it is given up if it has met a fault.
 pub fn follow<'l, W: Wait, H>(rt: &W, shared: &Shared<'_, H>, station: Station<'l>) -> Next<'l>
-    ensures follows { Follows shared.now.text.now station.entry result }
+    ensures follows { Follows shared.now.program.now station.entry result }
     ensures dropped { LosesFrames station.entry result }
     ensures same { SameStation station.entry (station_in result) }
 {
@@ -116,12 +116,25 @@ fn fetch_row<'l, W: Wait, H>(rt: &W, shared: &Shared<'_, H>, station: Station<'l
     }
 }
 
+// The rank has met refused memory, and all were told to leave.
+fn refuse_life<'l>(station: Station<'l>, stop: StopToken<'_>) -> Station<'l>
+    requires { stop.why ≡ Memory }
+    ensures fault { result.kit.tally ≡ record station.entry.kit.tally { fault = Some Memory } }
+    ensures down { result.down ≡ station.entry.down }
+    ensures rest { SameRest station.entry result }
+    ensures same { SameStation station.entry result }
+{
+    let mut station = station;
+    station.kit.tally.refuse(stop);
+    station
+}
+
 // A life of the rank that travels in the parcel.
 fn live_in_parcel<'l, W: Wait + Drop + Copy, H: Hold>(
     shared: &Shared<'_, H>,
     parcel: Parcel<'l, W>,
 ) -> Parcel<'l, W>
-    ensures lived { HasLived shared.now.text.now parcel.entry.station result.station }
+    ensures lived { HasLived shared.now.program.now parcel.entry.station result.station }
     ensures same { SameStation parcel.entry.station result.station }
 {
     let rt = parcel.rt;
@@ -152,7 +165,7 @@ fn spawn_life<'l, R: Threads + Wait + Sync + Copy + Send, H: Hold + Sync>(
     shared: &Shared<'_, H>,
     station: Station<'l>,
 ) -> Station<'l>
-    ensures lived { HasLived shared.now.text.now station.entry result }
+    ensures lived { HasLived shared.now.program.now station.entry result }
     ensures same { SameStation station.entry result }
 {
     let parcel = Parcel { rt, station };
@@ -160,12 +173,12 @@ fn spawn_life<'l, R: Threads + Wait + Sync + Copy + Send, H: Hold + Sync>(
         thread::scope_env(),
         &rt,
         move |scope| -> Parcel<'_, R>
-            ensures lived { HasLived shared.entry.now.text.now parcel.entry.station result.station }
+            ensures lived { HasLived shared.entry.now.program.now parcel.entry.station result.station }
             ensures same { SameStation parcel.entry.station result.station }
         {
-            let promise = AfterLife(Snapshot::of(&parcel.station), Snapshot::of(&shared.text));
+            let promise = AfterLife(Snapshot::of(&parcel.station), Snapshot::of(&shared.program));
             let whole = move || -> Parcel<'_, R>
-                ensures lived { HasLived shared.entry.now.text.now parcel.entry.station result.station }
+                ensures lived { HasLived shared.entry.now.program.now parcel.entry.station result.station }
                 ensures same { SameStation parcel.entry.station result.station }
             { live_in_parcel(shared, parcel) };
             match scope.spawn_with(promise, whole) {

@@ -1,13 +1,13 @@
 //! A rank's life, turn by turn. Whoever schedules ranks calls `live`: a thread of
 //! their own does it again and again, and `rounds` once a turn.
-ghost use Rattle.std.specs.Prelude.{◌≡◌, ℕ, List, true, false, Some, None};
-ghost use Rattle.rank_language.specs.Correct.{IsProgramOf};
+ghost use Rattle.std.specs.Prelude.{◌≡◌, true, false, None};
+ghost use Rattle.rank_language.specs.Program.{ProgramValue};
 ghost use Rattle.rank_node.specs.Phases.{settled_in};
 ghost use Rattle.rank_threads.specs.Keeping.{HasLived};
 ghost use Rattle.rank_threads.specs.Lives.{SameLife, SamePlace, SamePlan};
 ghost use Rattle.rank_threads.specs.Phases.{NoneWaits};
 ghost use Rattle.rank_threads.specs.Seats.{EndsAt, IsOverAt, IsSeat, KeepsSeat, MayEnd, SeatIsSettled, UsesBy, crashes_in, rests};
-ghost use Rattle.rank_threads.specs.Stations.{SameStation, SameRest};
+ghost use Rattle.rank_threads.specs.Stations.{SameStation};
 
 use super::ending::{Ending, Why, end_life};
 use super::seat::{Seat, put, settle_seat};
@@ -16,33 +16,28 @@ use super::waiting::Patience;
 use crate::hold::Hold;
 use crate::life::Life;
 use crate::shared::Shared;
-use crate::stop::{StopToken, ToldToLeave};
+use crate::stop::ToldToLeave;
 use crate::turn::{After, TurnStart, begin, finish};
 use audit::End;
-use rank_language::Program;
 use rank_node::NodeFault;
 use std::mem::replace;
 use std::sync::Wait;
 
-/// Plays a life on a thread of its own, until the rank crashes or leaves. The rank
-/// reads the program for itself: all that a crash loses is of this thread alone.
-/// Where it can't begin, or all were told to leave, it makes no turn.
+/// Plays a life on a thread of its own, until the rank crashes or leaves: all that a
+/// crash loses is of this thread alone. Where it can't begin, or all were told to
+/// leave, it makes no turn.
 pub fn run_life<'l, W: Wait, H: Hold>(
     rt: &W,
     shared: &Shared<'_, H>,
     station: Station<'l>,
 ) -> Station<'l>
-    ensures lived { HasLived shared.now.text.now station.entry result }
+    ensures lived { HasLived shared.now.program.now station.entry result }
     ensures same { SameStation station.entry result }
 {
-    // what is read is the canonical text of a program, so only memory can be wanting
-    let Ok(program) = Program::parse(shared.alloc, shared.text) else {
-        return refuse_life(station, shared.stop_all(rt, NodeFault::Memory));
-    };
     let mut seat = Seat::Between(station);
     let mut patience = Patience::new();
     for _ in rt.forever() {
-        let is_idle = live(rt, shared, &program, &mut seat);
+        let is_idle = live(rt, shared, &mut seat);
         if seat.is_over() {
             return seat.into_station();
         }
@@ -53,7 +48,7 @@ pub fn run_life<'l, W: Wait, H: Hold>(
 
 // After an idle turn others go first.
 fn wait_if(is_idle: bool, patience: &mut Patience, seat: &mut Seat<'_, '_>)
-    ensures { (text : List ℕ) → KeepsSeat text seat.old seat.new }
+    ensures { (program : ProgramValue) → KeepsSeat program seat.old seat.new }
 {
     if !is_idle {
         patience.end_wait();
@@ -71,15 +66,13 @@ fn wait_if(is_idle: bool, patience: &mut Patience, seat: &mut Seat<'_, '_>)
 /// over by it. Answers whether the rank found nothing to do.
 pub fn live<'p, 'l, W: Wait, H: Hold>(
     rt: &W,
-    shared: &Shared<'_, H>,
-    program: &'p Program,
+    shared: &Shared<'p, H>,
     seat: &mut Seat<'p, 'l>,
 ) -> bool
-    requires reads { IsProgramOf shared.now.text.now program.now }
-    ensures { KeepsSeat shared.now.text.now seat.old seat.new }
+    ensures { KeepsSeat shared.now.program.now seat.old seat.new }
 {
     let Seat::Living(life) = seat else {
-        begin_at(rt, shared, program, seat);
+        begin_at(rt, shared, seat);
         return false;
     };
     let begun = begin_turn(rt, shared, life);
@@ -93,30 +86,18 @@ pub fn live<'p, 'l, W: Wait, H: Hold>(
 // and never inlined: the caller makes turn after turn, and would clear the room for each move, some
 // kilobytes, in every one of them.
 #[inline(never)]
-fn begin_at<'p, 'l, W: Wait, H>(
-    rt: &W,
-    shared: &Shared<'_, H>,
-    program: &'p Program,
-    seat: &mut Seat<'p, 'l>,
-)
-    requires reads { IsProgramOf shared.now.text.now program.now }
-    ensures { KeepsSeat shared.now.text.now seat.old seat.new }
+fn begin_at<'p, 'l, W: Wait, H>(rt: &W, shared: &Shared<'p, H>, seat: &mut Seat<'p, 'l>)
+    ensures { KeepsSeat shared.now.program.now seat.old seat.new }
 {
     let taken = replace(seat, Seat::Empty);
-    put(seat, begun_at(rt, shared, program, taken));
+    put(seat, begun_at(rt, shared, taken));
 }
 
-fn begun_at<'p, 'l, W: Wait, H>(
-    rt: &W,
-    shared: &Shared<'_, H>,
-    program: &'p Program,
-    seat: Seat<'p, 'l>,
-) -> Seat<'p, 'l>
-    requires reads { IsProgramOf shared.now.text.now program.now }
-    ensures { KeepsSeat shared.now.text.now seat.entry result }
+fn begun_at<'p, 'l, W: Wait, H>(rt: &W, shared: &Shared<'p, H>, seat: Seat<'p, 'l>) -> Seat<'p, 'l>
+    ensures { KeepsSeat shared.now.program.now seat.entry result }
 {
     match seat {
-        Seat::Between(station) => begun(rt, shared, program, station),
+        Seat::Between(station) => begun(rt, shared, station),
         other => other,
     }
 }
@@ -124,14 +105,12 @@ fn begun_at<'p, 'l, W: Wait, H>(
 /// A life of the rank begins. Where it can't, it is over.
 pub fn begun<'p, 'l, W: Wait, H>(
     rt: &W,
-    shared: &Shared<'_, H>,
-    program: &'p Program,
+    shared: &Shared<'p, H>,
     station: Station<'l>,
 ) -> Seat<'p, 'l>
-    requires reads { IsProgramOf shared.now.text.now program.now }
-    ensures { IsSeat shared.now.text.now station.entry result }
+    ensures { IsSeat shared.now.program.now station.entry result }
 {
-    let life = station.begin(rt, shared, program);
+    let life = station.begin(rt, shared);
     if life.kit.tally.fault.is_some() {
         return Seat::Over(life.leave(Some(End::Unfinished), false));
     }
@@ -176,7 +155,7 @@ fn finish_turn<'s, W: Wait, H: Hold>(
     begun: TurnBegun<'s>,
 ) -> bool
     requires { SeatIsSettled seat.old }
-    ensures { KeepsSeat shared.now.text.now seat.old seat.new }
+    ensures { KeepsSeat shared.now.program.now seat.old seat.new }
 {
     let Seat::Living(life) = seat else {
         return false;
@@ -230,17 +209,4 @@ fn end_turn<'s, W: Wait, H: Hold>(
         After::Leave(why) => TurnEnd::Over(Ending::Left(why)),
         After::Turn { is_idle } => TurnEnd::On { is_idle },
     }
-}
-
-/// The rank has met refused memory, and all were told to leave.
-pub fn refuse_life<'l>(station: Station<'l>, stop: StopToken<'_>) -> Station<'l>
-    requires { stop.why ≡ NodeFault.Memory }
-    ensures fault { result.kit.tally ≡ record station.entry.kit.tally { fault = Some NodeFault.Memory } }
-    ensures down { result.down ≡ station.entry.down }
-    ensures rest { SameRest station.entry result }
-    ensures same { SameStation station.entry result }
-{
-    let mut station = station;
-    station.kit.tally.refuse(stop);
-    station
 }

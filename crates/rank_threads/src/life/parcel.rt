@@ -4,6 +4,7 @@ ghost use Rattle.rank_threads.specs.Keeping.{HasLived, WasKept};
 ghost use Rattle.rank_threads.specs.Stations.{SameStation};
 
 use super::station::Station;
+use rank_language::Program;
 use std::snapshot::Snapshot;
 use std::sync::Wait;
 use std::thread::Promise;
@@ -32,20 +33,18 @@ impl<W: Wait + Drop> Drop for Parcel<'_, W> {
     }
 }
 
-/// The station that comes back is the one that went in, after lives that read this
-/// text.
+/// The station that comes back is the one that went in, after lives of this program.
 #[derive(Drop)]
-pub struct AfterLives<'p, 't>(pub Snapshot<Station<'p>>, pub Snapshot<&'t [u8]>);
+pub struct AfterLives<'p, 's>(pub Snapshot<Station<'p>>, pub Snapshot<&'s Program>);
 
-impl<'p, 't, W: Wait + Drop> Promise<Parcel<'p, W>> for AfterLives<'p, 't> {
+impl<'p, 's, W: Wait + Drop> Promise<Parcel<'p, W>> for AfterLives<'p, 's> {
     ghost kept_by = { λ p r. WasKept p.1.value.now p.0.value r.station };
 }
 
-/// The station that comes back is the one that went in, after one life that read
-/// this text.
+/// The station that comes back is the one that went in, after one life of this program.
 #[derive(Drop)]
-pub struct AfterLife<'p, 't>(pub Snapshot<Station<'p>>, pub Snapshot<&'t [u8]>);
+pub struct AfterLife<'p, 's>(pub Snapshot<Station<'p>>, pub Snapshot<&'s Program>);
 
-impl<'p, 't, W: Wait + Drop> Promise<Parcel<'p, W>> for AfterLife<'p, 't> {
+impl<'p, 's, W: Wait + Drop> Promise<Parcel<'p, W>> for AfterLife<'p, 's> {
     ghost kept_by = { λ p r. SameStation p.0.value r.station × HasLived p.1.value.now p.0.value r.station };
 }

@@ -1,6 +1,6 @@
 //! All ranks on the caller's thread, one turn at a time, in the order of a schedule.
-ghost use Rattle.std.specs.Prelude.{◌≡◌, ◌≤◌, ℕ, List, [], map, true, false, None, vec_len, vec_capacity};
-ghost use Rattle.rank_language.specs.Correct.{IsProgramOf};
+ghost use Rattle.std.specs.Prelude.{◌≡◌, ◌≤◌, List, [], map, true, false, None, vec_len, vec_capacity};
+ghost use Rattle.rank_language.specs.Program.{ProgramValue};
 ghost use Rattle.rank_threads.specs.Keeping.{WereKept};
 ghost use Rattle.rank_threads.specs.Seats.{AreGone, AreSeated, IsSeat, IsSeated, KeepsSeat, MovesOn, is_gone, is_living, is_over};
 ghost use Rattle.rank_threads.specs.Stations.{stations_of};
@@ -17,46 +17,41 @@ use crate::schedule::{Chooser, Schedule};
 use crate::shared::Shared;
 use crate::stop::{OutOfTurns, ToldToLeave};
 use limits::Heap;
-use rank_language::Program;
 use std::mem::replace;
 use std::sync::Wait;
 
 /// Goes on with the rank of each station, turn by turn, until all have left, and
 /// gives the stations back in their order. Where the turns are used up before, all
-/// are told to leave. All lives read this one program.
+/// are told to leave.
 pub fn keep_by_turns<'p, 'l, W: Wait + Drop + Copy, H: Hold>(
     rt: W,
-    shared: &Shared<'_, H>,
-    program: &'p Program,
+    shared: &Shared<'p, H>,
     schedule: Schedule,
     stations: Vec<Parcel<'l, W>, Heap>,
     seats: Vec<Seat<'p, 'l>, Heap>,
 ) -> (Vec<Parcel<'l, W>, Heap>, Option<OutOfTurns>)
-    requires reads { IsProgramOf shared.now.text.now program.now }
     requires vacant { seats.items ≡ [] }
     requires seats { vec_len stations ≤ vec_capacity seats }
-    ensures kept { WereKept shared.now.text.now (stations_of stations.entry.items) (stations_of result.0.items) }
+    ensures kept { WereKept shared.now.program.now (stations_of stations.entry.items) (stations_of result.0.items) }
     ensures len { vec_len result.0 ≡ vec_len stations.entry }
     ensures room { vec_capacity result.0 ≡ vec_capacity stations.entry }
 {
     let (stations, mut seats) = sit_down(stations, seats);
-    let spent = play_out(&rt, shared, program, schedule, seats.as_mut_slice());
+    let spent = play_out(&rt, shared, schedule, seats.as_mut_slice());
     (get_up(rt, seats, stations), spent)
 }
 
 // Until all have left, by themselves or as they were told to.
 fn play_out<'p, 'l, W: Wait, H: Hold>(
     rt: &W,
-    shared: &Shared<'_, H>,
-    program: &'p Program,
+    shared: &Shared<'p, H>,
     schedule: Schedule,
     seats: &mut [Seat<'p, 'l>],
 ) -> Option<OutOfTurns>
-    requires reads { IsProgramOf shared.now.text.now program.now }
-    ensures kept { (firsts : List Station) → AreSeated shared.now.text.now firsts seats.old → AreSeated shared.now.text.now firsts seats.new }
-    ensures gone { (firsts : List Station) → AreSeated shared.now.text.now firsts seats.old → AreGone seats.new }
+    ensures kept { (firsts : List Station) → AreSeated shared.now.program.now firsts seats.old → AreSeated shared.now.program.now firsts seats.new }
+    ensures gone { (firsts : List Station) → AreSeated shared.now.program.now firsts seats.old → AreGone seats.new }
 {
-    match take_turns(rt, shared, program, schedule, seats) {
+    match take_turns(rt, shared, schedule, seats) {
         Some(spent) => {
             leave_all(rt, shared, &spent, seats);
             Some(spent)
@@ -88,13 +83,11 @@ fn sit_down<'p, 'l, W: Wait + Drop + Copy>(
 // Turn by turn, until all have left or the turns are used up.
 fn take_turns<'p, 'l, W: Wait, H: Hold>(
     rt: &W,
-    shared: &Shared<'_, H>,
-    program: &'p Program,
+    shared: &Shared<'p, H>,
     schedule: Schedule,
     seats: &mut [Seat<'p, 'l>],
 ) -> Option<OutOfTurns>
-    requires reads { IsProgramOf shared.now.text.now program.now }
-    ensures kept { (firsts : List Station) → AreSeated shared.now.text.now firsts seats.old → AreSeated shared.now.text.now firsts seats.new }
+    ensures kept { (firsts : List Station) → AreSeated shared.now.program.now firsts seats.old → AreSeated shared.now.program.now firsts seats.new }
     ensures left { result ≡ None → AreGone seats.new }
 {
     let mut chooser = Chooser::new(schedule.policy, schedule.seed);
@@ -102,7 +95,7 @@ fn take_turns<'p, 'l, W: Wait, H: Hold>(
         let Some(at) = chooser.next(seats) else {
             return None;
         };
-        let is_idle = take_turn(rt, shared, program, &mut seats[at]);
+        let is_idle = take_turn(rt, shared, &mut seats[at]);
         chooser.note(at, is_idle);
     }
     chooser.next(seats)?;
@@ -113,17 +106,15 @@ fn take_turns<'p, 'l, W: Wait, H: Hold>(
 // rank found nothing to do.
 fn take_turn<'p, 'l, W: Wait, H: Hold>(
     rt: &W,
-    shared: &Shared<'_, H>,
-    program: &'p Program,
+    shared: &Shared<'p, H>,
     seat: &mut Seat<'p, 'l>,
 ) -> bool
-    requires reads { IsProgramOf shared.now.text.now program.now }
-    ensures { MovesOn shared.now.text.now seat.old seat.new }
+    ensures { MovesOn shared.now.program.now seat.old seat.new }
 {
     match seat {
-        Seat::Living(_) => live(rt, shared, program, seat),
+        Seat::Living(_) => live(rt, shared, seat),
         Seat::Between(_) | Seat::Over(_) | Seat::Gone(_) | Seat::Empty => {
-            keep_at(rt, shared, program, seat);
+            keep_at(rt, shared, seat);
             false
         }
     }
@@ -131,31 +122,19 @@ fn take_turn<'p, 'l, W: Wait, H: Hold>(
 
 // A step of the keeper of the rank that is here, which is moved in memory: see `begin_at`.
 #[inline(never)]
-fn keep_at<'p, 'l, W: Wait, H>(
-    rt: &W,
-    shared: &Shared<'_, H>,
-    program: &'p Program,
-    seat: &mut Seat<'p, 'l>,
-)
-    requires reads { IsProgramOf shared.now.text.now program.now }
-    ensures { MovesOn shared.now.text.now seat.old seat.new }
+fn keep_at<'p, 'l, W: Wait, H>(rt: &W, shared: &Shared<'p, H>, seat: &mut Seat<'p, 'l>)
+    ensures { MovesOn shared.now.program.now seat.old seat.new }
 {
     let taken = replace(seat, Seat::Empty);
-    put(seat, kept(rt, shared, program, taken));
+    put(seat, kept(rt, shared, taken));
 }
 
 // What a keeper does: the next life begins, or the last one is over.
-fn kept<'p, 'l, W: Wait, H>(
-    rt: &W,
-    shared: &Shared<'_, H>,
-    program: &'p Program,
-    seat: Seat<'p, 'l>,
-) -> Seat<'p, 'l>
-    requires reads { IsProgramOf shared.now.text.now program.now }
-    ensures { MovesOn shared.now.text.now seat.entry result }
+fn kept<'p, 'l, W: Wait, H>(rt: &W, shared: &Shared<'p, H>, seat: Seat<'p, 'l>) -> Seat<'p, 'l>
+    ensures { MovesOn shared.now.program.now seat.entry result }
 {
     let station = match seat {
-        Seat::Between(station) => return begun_unless_told(rt, shared, program, station),
+        Seat::Between(station) => return begun_unless_told(rt, shared, station),
         Seat::Over(station) => station,
         other => return other,
     };
@@ -165,16 +144,14 @@ fn kept<'p, 'l, W: Wait, H>(
 // The next life begins, unless all were told to leave.
 fn begun_unless_told<'p, 'l, W: Wait, H>(
     rt: &W,
-    shared: &Shared<'_, H>,
-    program: &'p Program,
+    shared: &Shared<'p, H>,
     station: Station<'l>,
 ) -> Seat<'p, 'l>
-    requires reads { IsProgramOf shared.now.text.now program.now }
-    ensures { IsSeat shared.now.text.now station.entry result }
+    ensures { IsSeat shared.now.program.now station.entry result }
 {
     match shared.stopped() {
         Some(stopped) => Seat::Gone(leave_unfinished(station, stopped)),
-        None => begun(rt, shared, program, station),
+        None => begun(rt, shared, station),
     }
 }
 
@@ -184,7 +161,7 @@ fn followed<'p, 'l, W: Wait, H>(
     shared: &Shared<'_, H>,
     station: Station<'l>,
 ) -> Seat<'p, 'l>
-    ensures moved { MovesOn shared.now.text.now (Seat.Over station.entry) result }
+    ensures moved { MovesOn shared.now.program.now (Seat.Over station.entry) result }
     ensures idle { is_living result ≡ false }
     ensures followed { is_over result ≡ false }
 {
@@ -201,8 +178,8 @@ fn leave_all<'p, 'l, W: Wait, H>(
     spent: &OutOfTurns,
     seats: &mut [Seat<'p, 'l>],
 )
-    ensures kept { (firsts : List Station) → AreSeated shared.now.text.now firsts seats.old → AreSeated shared.now.text.now firsts seats.new }
-    ensures gone { (firsts : List Station) → AreSeated shared.now.text.now firsts seats.old → AreGone seats.new }
+    ensures kept { (firsts : List Station) → AreSeated shared.now.program.now firsts seats.old → AreSeated shared.now.program.now firsts seats.new }
+    ensures gone { (firsts : List Station) → AreSeated shared.now.program.now firsts seats.old → AreGone seats.new }
 {
     for at in 0..seats.len() {
         leave(rt, shared, spent, &mut seats[at]);
@@ -215,8 +192,8 @@ fn leave<'p, 'l, W: Wait, H>(
     spent: &OutOfTurns,
     seat: &mut Seat<'p, 'l>,
 )
-    ensures kept { MovesOn shared.now.text.now seat.old seat.new }
-    ensures gone { (first : Station) → IsSeated shared.now.text.now first seat.old → is_gone seat.new ≡ true }
+    ensures kept { MovesOn shared.now.program.now seat.old seat.new }
+    ensures gone { (first : Station) → IsSeated shared.now.program.now first seat.old → is_gone seat.new ≡ true }
 {
     let taken = replace(seat, Seat::Empty);
     let ended = ended(taken, shared.end_all(rt, spent));
@@ -226,7 +203,7 @@ fn leave<'p, 'l, W: Wait, H>(
 
 // The life of a rank that lives is over, as it was told to leave.
 fn ended<'p, 'l>(seat: Seat<'p, 'l>, stopped: ToldToLeave<'_>) -> Seat<'p, 'l>
-    ensures kept { (text : List ℕ) → KeepsSeat text seat.entry result }
+    ensures kept { (program : ProgramValue) → KeepsSeat program seat.entry result }
     ensures ended { is_living result ≡ false }
 {
     match seat {
@@ -242,7 +219,7 @@ fn after_life<'p, 'l, W: Wait, H>(
     seat: Seat<'p, 'l>,
 ) -> Seat<'p, 'l>
     requires { is_living seat ≡ false }
-    ensures moved { MovesOn shared.now.text.now seat.entry result }
+    ensures moved { MovesOn shared.now.program.now seat.entry result }
     ensures idle { is_living result ≡ false }
     ensures followed { is_over result ≡ false }
 {
@@ -257,8 +234,8 @@ fn after_life<'p, 'l, W: Wait, H>(
 fn told<'p, 'l>(seat: Seat<'p, 'l>, stopped: ToldToLeave<'_>) -> Seat<'p, 'l>
     requires idle { is_living seat ≡ false }
     requires followed { is_over seat ≡ false }
-    ensures moved { (text : List ℕ) → MovesOn text seat.entry result }
-    ensures gone { (text : List ℕ) (first : Station) → IsSeated text first seat.entry → is_gone result ≡ true }
+    ensures moved { (program : ProgramValue) → MovesOn program seat.entry result }
+    ensures gone { (program : ProgramValue) (first : Station) → IsSeated program first seat.entry → is_gone result ≡ true }
 {
     match seat {
         Seat::Between(station) => Seat::Gone(leave_unfinished(station, stopped)),
@@ -275,7 +252,7 @@ fn get_up<'p, 'l, W: Wait + Drop + Copy>(
     requires gone { AreGone seats.items }
     requires empty { stations.items ≡ [] }
     requires room { vec_len seats ≤ vec_capacity stations }
-    ensures kept { (text : List ℕ) (firsts : List Station) → AreSeated text firsts seats.entry.items → WereKept text firsts (stations_of result.items) }
+    ensures kept { (program : ProgramValue) (firsts : List Station) → AreSeated program firsts seats.entry.items → WereKept program firsts (stations_of result.items) }
     ensures len { vec_len result ≡ vec_len seats.entry }
     ensures room { vec_capacity result ≡ vec_capacity stations.entry }
 {

@@ -1,5 +1,6 @@
 //! Where a rank is whose scheduler goes on with it turn by turn.
-ghost use Rattle.std.specs.Prelude.{◌≡◌, List, ℕ, true, false};
+ghost use Rattle.std.specs.Prelude.{◌≡◌, true, false};
+ghost use Rattle.rank_language.specs.Program.{ProgramValue};
 ghost use Rattle.rank_threads.specs.Seats.{KeepsSeat, SeatIsSettled, is_gone, is_over};
 
 use super::station::Station;
@@ -84,7 +85,7 @@ pub fn put<'p, 'l>(seat: &mut Seat<'p, 'l>, next: Seat<'p, 'l>)
 /// A rank that has nothing left to replay runs from now on.
 pub fn settle_seat<'p, 'l>(seat: &mut Seat<'p, 'l>)
     ensures settled { SeatIsSettled seat.new }
-    ensures kept { (text : List ℕ) → KeepsSeat text seat.old seat.new }
+    ensures kept { (program : ProgramValue) → KeepsSeat program seat.old seat.new }
 {
     if has_replayed(seat) {
         settle_now(seat);
@@ -95,7 +96,7 @@ pub fn settle_seat<'p, 'l>(seat: &mut Seat<'p, 'l>)
 #[inline(never)]
 fn settle_now<'p, 'l>(seat: &mut Seat<'p, 'l>)
     ensures settled { SeatIsSettled seat.new }
-    ensures kept { (text : List ℕ) → KeepsSeat text seat.old seat.new }
+    ensures kept { (program : ProgramValue) → KeepsSeat program seat.old seat.new }
 {
     let taken = replace(seat, Seat::Empty);
     put(seat, settled(taken));
@@ -113,7 +114,7 @@ fn has_replayed(seat: &Seat<'_, '_>) -> bool
 
 fn settled<'p, 'l>(seat: Seat<'p, 'l>) -> Seat<'p, 'l>
     ensures settled { SeatIsSettled result }
-    ensures kept { (text : List ℕ) → KeepsSeat text seat.entry result }
+    ensures kept { (program : ProgramValue) → KeepsSeat program seat.entry result }
 {
     match seat {
         Seat::Living(life) => Seat::Living(settle(life)),

@@ -12,8 +12,8 @@ close_all-requires g c =
     rw (
       c.unseat_all-desks.ensures.to,
       c.unseat_all-desks.ensures.from,
-      kept_to c.args.ground.text.items begun ended c.requires.kept,
-      kept_from c.args.ground.text.items begun ended c.requires.kept,
+      kept_to c.args._program.now begun ended c.requires.kept,
+      kept_from c.args._program.now begun ended c.requires.kept,
     ) c.requires.out.crossed
 
 -- the desks that come back are those that the stations were made of
@@ -31,8 +31,6 @@ returns-clause-played g c = record {
   begun = stations_of c.args._begun.value.items;
   ended = stations_of c.args.stations.items;
   lived = record {
-    text = c.args.ground.text.items;
-    read = c.requires.out.read;
     fresh = c.requires.out.fresh;
     lines = c.requires.out.lines;
     desks = c.requires.out.desks;

@@ -5,7 +5,6 @@ use Rattle.rank_threads.proofs.playing.set_out.Goals as goal
 -- the stations were made of what stood on the stage, and of the desks
 pub returns-clause-out : goal.returns-clause-out
 returns-clause-out g c = record {
-  read = c.requires.stage.text;
   fresh = c.seat_all-stations.ensures.fresh;
   lines = search rules;
   desks = c.seat_all-stations.ensures.desks ∙ c.requires.new;

@@ -22,7 +22,6 @@ use checkpoint::MemoryShelf;
 use event_logger::{Desk, Logger};
 use limits::Heap;
 use ports::{Rx, Tx};
-use rank_language::Program;
 use rank_node::{Down, NodeFault, Phase, Stable};
 use std::sync::Wait;
 
@@ -76,13 +75,8 @@ impl<'l> Station<'l> {
 
     /// A life of the rank begins. Where it can't, its fault says why, and
     /// all are to leave.
-    pub fn begin<'p, W: Wait, H>(
-        self,
-        rt: &W,
-        shared: &Shared<'_, H>,
-        program: &'p Program,
-    ) -> Life<'p, 'l>
-        ensures begins { result.kit.tally.fault ≡ None → Begins program.now self.entry.down self.entry.row result.node.phase }
+    pub fn begin<'p, W: Wait, H>(self, rt: &W, shared: &Shared<'p, H>) -> Life<'p, 'l>
+        ensures begins { result.kit.tally.fault ≡ None → Begins shared.now.program.now self.entry.down self.entry.row result.node.phase }
         ensures kit { result.kit ≡ record self.entry.kit { tally = record self.entry.kit.tally { fault = result.kit.tally.fault } } }
         ensures well { result.kit.tally.fault ≡ None → result.kit.tally ≡ self.entry.kit.tally }
         ensures same { IsLifeOf self.entry result }
@@ -96,7 +90,7 @@ impl<'l> Station<'l> {
             end: _,
             stood: _,
         } = self;
-        let (node, fault) = Node::begin(shared.alloc, program, logger, down, row, size);
+        let (node, fault) = Node::begin(shared.alloc, shared.program, logger, down, row, size);
         if let Some(fault) = fault {
             kit.tally.refuse(shared.stop_all(rt, fault));
         }

@@ -7,5 +7,5 @@ use Rattle.rank_threads.proofs.life.keeper.keep.Given as goal
 abbrev pub invariant-loop : goal.invariant-loop
 invariant-loop g l = record {
   same : SameStation l.initial.station l.station;
-  lives : (u : Station) → Lives l.shared.text.now l.station u → Lives l.shared.text.now l.initial.station u;
+  lives : (u : Station) → Lives l.shared.program.now l.station u → Lives l.shared.program.now l.initial.station u;
 }

@@ -11,6 +11,6 @@ returns-in_default g c = c.begin_at.ensures
 pub returns : goal.returns
 returns g c =
     λ old here. c.finish_turn.ensures old
-    (c.settle_seat.ensures.kept c.args.shared.now.text.now old
-    (living_same c.args.shared.now.text.now old c.in-Living.life c.begin_turn-begun.new.life (subst (IsSeat c.args.shared.now.text.now old) c.in-Living.is here)
+    (c.settle_seat.ensures.kept c.args.shared.now.program.now old
+    (living_same c.args.shared.now.program.now old c.in-Living.life c.begin_turn-begun.new.life (subst (IsSeat c.args.shared.now.program.now old) c.in-Living.is here)
     c.begin_turn-begun.ensures.same c.begin_turn-begun.ensures.plan))

@@ -13,12 +13,12 @@ loop-seat-preserved g c =
     let stood = stations_of c.loop-seat.stations.items in
     record {
       gone = gone_less c.pop.new.self.items c.in-Some.seat (subst AreGone c.in-Some.ensures.items before.gone);
-      kept = λ text firsts all.
-          let split : AreSeatedBut text firsts (c.pop.new.self.items ++ seat.Gone c.in-Gone.station ∷ []) stood
-          = subst (λ s. AreSeatedBut text firsts (c.pop.new.self.items ++ s ∷ []) stood) c.in-Gone.is
-          (subst (λ l. AreSeatedBut text firsts l stood) c.in-Some.ensures.items (before.kept text firsts all)) in
+      kept = λ program firsts all.
+          let split : AreSeatedBut program firsts (c.pop.new.self.items ++ seat.Gone c.in-Gone.station ∷ []) stood
+          = subst (λ s. AreSeatedBut program firsts (c.pop.new.self.items ++ s ∷ []) stood) c.in-Gone.is
+          (subst (λ l. AreSeatedBut program firsts l stood) c.in-Some.ensures.items (before.kept program firsts all)) in
           rw (c.push_reserved.ensures.items, stations_snoc c.loop-seat.stations.items (record { rt = c.args.rt; station = c.in-Gone.station }))
-          (but_less text firsts c.pop.new.self.items c.in-Gone.station stood split);
+          (but_less program firsts c.pop.new.self.items c.in-Gone.station stood split);
       all = grind (arith, before.all, c.in-Some.ensures.len, c.push_reserved.ensures.len);
       places = grind (arith, before.places, c.in-Some.ensures.len, c.push_reserved.ensures.len, c.push_reserved.ensures.capacity);
       room = grind (arith, before.room, c.push_reserved.ensures.capacity);
@@ -27,7 +27,7 @@ loop-seat-preserved g c =
 -- all were kept
 pub returns-clause-kept : goal.returns-clause-kept
 returns-clause-kept g c =
-    λ text firsts all.
+    λ program firsts all.
     let none : c.loop-seat.seats.items ≡ [] = search rules in
-    but_none text firsts (stations_of c.loop-seat.stations.items)
-    (subst (λ l. AreSeatedBut text firsts l (stations_of c.loop-seat.stations.items)) none (c.loop-seat.invariant.kept text firsts all))
+    but_none program firsts (stations_of c.loop-seat.stations.items)
+    (subst (λ l. AreSeatedBut program firsts l (stations_of c.loop-seat.stations.items)) none (c.loop-seat.invariant.kept program firsts all))

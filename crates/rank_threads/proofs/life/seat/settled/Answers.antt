@@ -6,5 +6,5 @@ use Rattle.rank_threads.proofs.life.seat.settled.Goals as goal
 -- a life that is settled is the same life
 pub returns-in-Living-clause-kept : goal.returns-in-Living-clause-kept
 returns-in-Living-clause-kept c =
-    λ text old here. living_same text old c.in-Living.life c.settle.result (subst (IsSeat text old) c.in-Living.is here) c.settle.ensures.same
+    λ program old here. living_same program old c.in-Living.life c.settle.result (subst (IsSeat program old) c.in-Living.is here) c.settle.ensures.same
     (ap (λ l. l.kit.plan) c.settle.ensures.rest)
