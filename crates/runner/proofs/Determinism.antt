@@ -7,6 +7,7 @@ use Rattle.audit.specs.FinalRuns.Maximal.{RankOutcome}
 use Rattle.explore.specs.Explored.{ExploredValue}
 use Rattle.explore.specs.Outcomes.{IsAmong}
 use Rattle.rank_language.specs.Program.{ProgramValue}
+use Rattle.explore.specs.declared.send_mode.SendMode.TheVariants.{Buffered}
 use Rattle.runner.specs.Apart.{AreLinesApart}
 use Rattle.runner.specs.Determinism.{AreAlike, ArePartedAt, IsKnown, PrintsOther, printed}
 use Rattle.runner.specs.Searches.{IsFoundBy}

@@ -1,9 +1,7 @@
 -- How one outcome after another is written.
 use Rattle.std.proofs.Common.{◌≡◌, ℕ, ◌+◌, Bool, true, List, [], ◌++◌, Option, Some, codes, length, slice_get, slice_index_or, refl, ap, subst, sym, ◌∙◌}
 use Rattle.std.proofs.lemmas.List.{append-nil, length-map}
-use Rattle.explore.specs.Cycles.{MayGoOnForEver}
 use Rattle.explore.specs.declared.moves.Noted.{Noted}
-use Rattle.explore.specs.declared.send_mode.SendMode.{SendMode}
 use Rattle.explore.specs.Explored.{ExploredValue, FoundOutcomeValue, rank_outcomes}
 use Rattle.explore.specs.Shown.{AreMarked}
 use Rattle.explore.proofs.SeenOf.{seen_at}
@@ -71,11 +69,6 @@ is_summary synchronous found left marks cycle runs races shorts between text lis
   is_safe = safe.1;
   whole = whole ∙ ap (λ z. z ++ meaning_text synchronous found marks cycle runs) (safe.2 ∙ ap (λ z. z ++ safe.0) listed);
 }
-
--- ranks may go on for ever by the mode that is given, which is this one
-pub goes_on_at : (mode given : SendMode) (program : ProgramValue) (ranks : ℕ) (cycle : List ℕ) → MayGoOnForEver given program ranks → given ≡ mode
-    → GoesOnAt mode program ranks cycle
-goes_on_at mode given program ranks cycle endless same = λ _. subst (λ m. MayGoOnForEver m program ranks) same endless
 
 -- the outcomes, with their own marks, and behind them whether the program is safe
 pub is_marked : (synchronous : Bool) (lines : List ℕ) (program : ProgramValue) (ranks : ℕ) (found : ExploredValue) (told : Safety)

@@ -211,7 +211,6 @@ fn json_text(
 }
 
 // The lines at which ranks went on until a state came back, if all wasn't searched and one did.
-#[tactic(auto, using(crate::proofs::Written::goes_on_at))]
 fn cycle_in(
     alloc: Heap,
     job: ExploreJob<'_>,
@@ -224,13 +223,20 @@ fn cycle_in(
     if found.complete {
         return Ok(Vec::new(alloc));
     }
-    match came_back(
-        alloc,
-        mode_of(job.synchronous),
-        program,
-        job.ranks,
-        limits_of(job),
-    )? {
+    cycle_by(alloc, job, mode_of(job.synchronous), program, lines)
+}
+
+// So it is by this mode of sends, if a state came back.
+fn cycle_by(
+    alloc: Heap,
+    job: ExploreJob<'_>,
+    mode: SendMode,
+    program: &Program,
+    lines: &[usize],
+) -> Result<Vec<usize, Heap>, AllocError>
+    ensures { IfOk result (λ cycle. GoesOnAt mode program.now job.entry.ranks cycle.items) }
+{
+    match came_back(alloc, mode, program, job.ranks, limits_of(job))? {
         Some(cycle) => lines_at(alloc, cycle.positions.as_slice(), lines),
         None => Ok(Vec::new(alloc)),
     }
