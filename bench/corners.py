@@ -237,7 +237,7 @@ class Corner(NamedTuple):
     manner: Manner
 
     def words(self, runs: int, seed: int, turns: int) -> tuple[str, ...]:
-        """The words of a soak, but for the path of the program."""
+        """The words of a soak, except for the path of the program."""
         manner = self.manner
         every = ("--images-every", str(manner.every)) if manner.every else ()
         counts = ("--runs", str(runs), "--seed", str(seed), "--turns", str(turns), "--idle", str(manner.idle))

@@ -15,7 +15,7 @@ HEADING = "# Written by ./check when all had passed; scripts/README.md says what
 
 def sum_of_all(top: str) -> str:
     """The checksum of all that the proofs and tests of `rt ci` read: crates.txt, HANDLES, and each
-    file of crates/, but for what is built, what is written for readers, and hidden files."""
+    file of crates/, except for what is built, what is written for readers, and hidden files."""
     paths = LISTS.copy()
     for at, folders, files in os.walk(f"{top}/crates"):
         folders[:] = [it for it in folders if it not in ("out", "__pycache__")]

@@ -77,7 +77,7 @@ def answering(wants_proof: bool) -> str:
         with locked("quick"):
             if there := next((it for it in (proof, unproved) if it.is_current()), None):
                 return there.path
-            say("no program is there for these sources: the quick one is made, in three to five minutes")
+            say("no program is there for these sources: the quick one is made, in two to five minutes")
             try:
                 say(f"the quick program was {unproved.make(quick)}; {UNPROVED}")
                 return unproved.path

@@ -99,7 +99,7 @@ class Lemmas:
         return other in self.named_below[crate.name] and module in self.exported[other]
 
     def faults(self, crate: Crate, named: set[str]) -> Iterator[Fault]:
-        """Lemmas that nothing uses, but for those that documents name, those that are `pub` for nobody, and those that stand twice."""
+        """Lemmas that nothing uses, except for those that documents name, those that are `pub` for nobody, and those that stand twice."""
         for it in self.of_crates[crate.name]:
             if not self.is_used(it) and it.name not in named:
                 yield Fault(it.file, 1, f"nothing uses the lemma `{it.name}`")

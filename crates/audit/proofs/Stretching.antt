@@ -1,9 +1,9 @@
 -- Steps of their own that ranks make side by side keep to the outcome, and are counted.
-use Rattle.std.proofs.Common.{◌≡◌, ℕ, zero, suc, ◌+◌, ◌<◌, ◌≤◌, List, [], ◌∷◌, Some, length, slice_get, sum, refl, sym, ap, subst, ◌∙◌, arith}
+use Rattle.std.proofs.Common.{◌≡◌, ℕ, suc, ◌+◌, ◌<◌, ◌≤◌, List, [], ◌∷◌, Some, length, slice_get, sum, refl, sym, subst, ◌∙◌, arith}
 use Rattle.std.specs.Prelude.{IsSomeAnd}
 use Rattle.std.proofs.lemmas.List.Sums.{sum_by-cons}
 use Rattle.std.proofs.lemmas.Option.{slice_get_within}
-use Rattle.rank_machine.specs.Machine.{MachineValue, Strides, still}
+use Rattle.rank_machine.specs.Machine.{MachineValue, still}
 use Rattle.crash_free.specs.Runs.{history, printed}
 use Rattle.crash_free.specs.Sim.{SimValue, Simulates}
 use Rattle.crash_free.specs.Advances.{Advances, first_machine}

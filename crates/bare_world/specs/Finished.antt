@@ -129,7 +129,7 @@ abbrev pub LeadsAlmost : WorldValue → List WorldEvent → WorldValue → Type 
 LeadsAlmost w events w' = (mid : WorldValue) × Leads w events mid × ((w' ≡ mid) ⊎ ((r : ℕ) × Fetched mid r w'))
 
 -- these events, none of which is a crash, happened one after another, and led from one world to
--- another; for want of memory one restart more may have left its fetch in the logger's history
+-- another; if memory ran out, one restart more may have left its fetch in the logger's history
 abbrev pub LeadsTo : WorldValue → List WorldEvent → FinishEnd → WorldValue → Type 0
 LeadsTo w events finish.Ended w' = Leads w events w'
 LeadsTo w events (finish.OutOfRounds r) w' = Leads w events w'

@@ -97,7 +97,7 @@ passed_last s' call e = rw e refl
 passed_on : (s' : Store) (call : CollectiveCall) → is_last s' call ≡ false → (part_done s' call).finished ≡ s'.finished
 passed_on s' call e = rw e refl
 
--- what a collective keeps of a packet leaves what is counted, but for what a reduce gathers
+-- what a collective keeps of a packet leaves what is counted, except for what a reduce gathers
 kept_keeps : (c : statements.Collective) (items : List ℤ) (s : Store)
     → ((kept c items s).done ≡ s.done) × ((kept c items s).rank ≡ s.rank) × ((kept c items s).size ≡ s.size) × ((kept c items s).finished ≡ s.finished)
 kept_keeps barrier items s = (refl, refl, refl, refl)

@@ -21,12 +21,6 @@ take_again [] (suc n) = refl
 take_again (x ∷ xs) zero = refl
 take_again (x ∷ xs) (suc n) = ap (λ z. x ∷ z) (take_again xs n)
 
--- two lists with one more that is the same
-pub same_so_far : {A : Type 0} (xs ys : List A) (n : ℕ) (d : A) → n < length xs → n < length ys → take n xs ≡ take n ys
-    → get_or xs n d ≡ get_or ys n d → take (n + 1) xs ≡ take (n + 1) ys
-same_so_far xs ys n d low low' before here =
-    take_more xs n d low ∙ rw (before, here) refl ∙ sym (take_more ys n d low')
-
 -- values that are written one by one
 each_value : (c : Rows) (xs : List ℤ) → and_each and_value (and_number c (length xs)) xs ≡ and_values c xs
 each_value c xs = go (and_number c (length xs)) xs

@@ -1,10 +1,11 @@
 -- Slots are walked from the front on, before which all are empty.
-use Rattle.std.proofs.Common.{◌≡◌, ℕ, zero, suc, ◌+◌, ◌<◌, ◌≤◌, true, false, List, [], ◌∷◌, ◌++◌, Some, None, length, refl, sym, ap, ◌∙◌, subst, arith}
-use Rattle.std.proofs.Common.{get_or, ◌⊎◌, inl, inr}
+use Rattle.std.proofs.Common.{◌≡◌, ℕ, zero, suc, ◌+◌, ◌-◌, ◌<◌, ◌≤◌, true, false, List, [], ◌∷◌, ◌++◌, Some, None, length, refl, sym, ap, ◌∙◌, subst, arith}
+use Rattle.std.proofs.Common.{get_or, take, drop, ◌⊎◌, inl, inr}
 use Rattle.std.specs.Prelude.{position, slice_index_or, slice_set}
 use Rattle.std.proofs.lemmas.Bool.{cases_eq}
-use Rattle.std.proofs.lemmas.List.{get_or_append_left}
+use Rattle.std.proofs.lemmas.List.{get_or_append_left, length-drop, take_all}
 use Rattle.matching.specs.declared.selector.Selector.{Selector}
+use Rattle.crash_free.specs.Alike.{packets_in}
 use Rattle.crash_free.specs.Slots.{Slot, passes}
 use Rattle.crash_free.specs.Index.{passes_at, AreEmptyBefore}
 use Rattle.crash_free.proofs.SlotLemmas.{is_position, no_position}
@@ -58,3 +59,17 @@ emptied slots front k before place low = at slots k place (before place low)
     at (slot ∷ slots) zero (suc place) e = e
     at (slot ∷ slots) (suc k) zero e = e
     at (slot ∷ slots) (suc k) (suc place) e = at slots k place e
+
+-- slots that follow on empty ones have all packets
+behind_empty : (slots : List Slot) (front : ℕ) → AreEmptyBefore front slots → packets_in (drop front slots) ≡ packets_in slots
+behind_empty slots zero empty = refl
+behind_empty [] (suc n) empty = refl
+behind_empty (slot ∷ slots) (suc n) empty =
+    behind_empty slots n (λ place low. empty (suc place) (omega (arith, low)))
+    ∙ sym (ap (λ z. packets_in (z ∷ slots)) (empty zero (omega arith)))
+
+-- so do those from the front on
+pub packets_behind : (slots : List Slot) (front : ℕ) → AreEmptyBefore front slots → packets_in (take (length slots - front) (drop front slots)) ≡ packets_in slots
+packets_behind slots front empty =
+    let rest = length-drop front slots in
+    ap packets_in (take_all (length slots - front) (drop front slots) (omega (arith, rest))) ∙ behind_empty slots front empty

@@ -1,6 +1,6 @@
 -- Points of a run to which a simulation can go back (checkpoints of a search that undoes what it did: VeriSoft makes runs
 -- again from the beginning, Godefroid 1997).
-use Rattle.std.specs.Prelude.{◌≡◌, ℕ, ℤ, ◌-◌, ◌≤◌, ◌++◌, List, length, drop}
+use Rattle.std.specs.Prelude.{◌≡◌, ℕ, ℤ, ◌-◌, ◌≤◌, ◌++◌, List, [], ◌∷◌, Option, Some, None, length, drop, slice_get}
 use Rattle.rank_language.specs.Program.{ProgramValue}
 use Rattle.rank_machine.specs.Machine.{MachineValue}
 use Rattle.crash_free.specs.Runs.{Passed}
@@ -33,3 +33,14 @@ pub record IsPointOf (program : ProgramValue) (n : ℕ) (C : List Passed) (p : P
   pub ranks : length p.machines ≡ n
   pub kept : IsKept program p.machines p.channels (first_acts p.made C)
   pub lines : AreLines p.lines (first_acts p.made C)
+
+-- each machine is of the same program as the one of its rank in the second list
+abbrev pub AreOfOneProgram : List MachineValue → List MachineValue → Type 0
+AreOfOneProgram machines others = (r : ℕ) (m other : MachineValue) → slice_get machines r ≡ Some m → slice_get others r ≡ Some other → m.program ≡ other.program
+
+-- the machines, with another in the place of each for which there is one
+abbrev pub replaced : List MachineValue → List (Option MachineValue) → List MachineValue
+replaced [] others = []
+replaced (m ∷ machines) [] = m ∷ machines
+replaced (m ∷ machines) (None ∷ others) = m ∷ replaced machines others
+replaced (m ∷ machines) (Some other ∷ others) = other ∷ replaced machines others

@@ -5,6 +5,7 @@ ghost use Rattle.limits.specs.Limits.{most_ranks};
 use limits::{Heap, MOST_RANKS};
 use std::alloc::AllocError;
 use std::marker::Model;
+use std::rc::Rc;
 
 /// The values that one rank printed, in order.
 #[derive(Drop)]
@@ -54,10 +55,46 @@ impl RankPrintedValues {
     }
 }
 
+// A row for each rank that there may be.
+#[derive(Drop)]
+struct Rows {
+    rows: Vec<RankPrintedValues, Heap>,
+}
+
+impl Model for Rows {
+    ghost use Rattle.std.specs.Prelude.{List, ℤ};
+
+    ghost Value = { List (List ℤ) };
+
+    ghost view = { λ all. all.rows.items };
+}
+
+impl Clone for Rows {
+    ghost is_clone = { λ all clone. clone ≡ all };
+
+    fn clone(&self) -> Result<Rows, AllocError> {
+        Ok(Rows {
+            rows: self.rows.as_slice().to_vec(*self.rows.allocator())?,
+        })
+    }
+}
+
+impl Rows {
+    fn push(&mut self, rank: u8, value: i64) -> Result<(), AllocError>
+        requires { rank < length self.old }
+        ensures ok { OnOk result (self.new ≡ slice_set self.old rank (slice_index_or self.old rank [] ++ value ∷ [])) }
+        ensures err { OnErr result (self.new ≡ self.old) }
+    {
+        let row = &mut self.rows[usize::from(rank)];
+        row.push(value)
+    }
+}
+
 /// The lines of all ranks: a row for each rank that there may be.
 #[derive(Drop)]
 pub struct PrintedValues {
-    rows: Vec<RankPrintedValues, Heap>,
+    // shared with the copies: the first in which a rank prints gets rows of its own
+    shared: Rc<Rows, Heap>,
 }
 
 impl Model for PrintedValues {
@@ -65,7 +102,7 @@ impl Model for PrintedValues {
 
     ghost Value = { List (List ℤ) };
 
-    ghost view = { λ lines. lines.rows.items };
+    ghost view = { λ lines. lines.shared.value };
 }
 
 impl PrintedValues {
@@ -77,15 +114,17 @@ impl PrintedValues {
         for _ in 0..MOST_RANKS {
             rows.push(RankPrintedValues::new(alloc))?;
         }
-        Ok(PrintedValues { rows })
+        Ok(PrintedValues {
+            shared: Rc::new(alloc, Rows { rows })?,
+        })
     }
 
-    /// The same lines, in memory of their own.
-    pub fn copy(&self, alloc: Heap) -> Result<PrintedValues, AllocError>
+    /// The same lines: both share them until a rank prints in one of the two.
+    pub fn copy(&self) -> Result<PrintedValues, AllocError>
         ensures { IfOk result (λ lines. lines ≡ self.now) }
     {
         Ok(PrintedValues {
-            rows: self.rows.as_slice().to_vec(alloc)?,
+            shared: self.shared.clone()?,
         })
     }
 
@@ -94,7 +133,7 @@ impl PrintedValues {
         requires { rank < length self.now }
         ensures { slice_get self.now rank ≡ Some result.now }
     {
-        let row = &self.rows[usize::from(rank)];
+        let row = &self.shared.as_ref().rows[usize::from(rank)];
         row.as_slice()
     }
 
@@ -104,7 +143,7 @@ impl PrintedValues {
         ensures ok { OnOk result (self.new ≡ slice_set self.old rank (slice_index_or self.old rank [] ++ value ∷ [])) }
         ensures err { OnErr result (self.new ≡ self.old) }
     {
-        let row = &mut self.rows[usize::from(rank)];
-        row.push(value)
+        let own = Rc::make_mut(&mut self.shared)?;
+        own.push(rank, value)
     }
 }

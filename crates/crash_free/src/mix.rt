@@ -12,9 +12,10 @@ pub struct Mix {
 }
 
 impl Mix {
-    /// The hash of no number.
+    /// The hash of no number. FxHash begins with 0, which a first number 0 leaves
+    /// as it is: then no number and any zeros have one hash.
     pub fn new() -> Mix {
-        Mix { hash: 0 }
+        Mix { hash: FACTOR }
     }
 
     /// One number more.

@@ -110,7 +110,7 @@ module _ (mode : SendMode) (s t : SimValue) (pending : List Branch) (b : Branch)
       → EnoughForAll mode s.program (length s.machines) k (stems_of t.run pending ++ stem_of s.run b ∷ [])
   enough_then k e = subst (λ (z : List Stem). EnoughForAll mode s.program (length s.machines) k z) stems_then e
 
-  -- where its run couldn't be made again, for want of steps
+  -- where its run couldn't be made again, as steps ran out
   pub on_cut : IsOn mode s.program (length s.machines) t pending outcomes met true
   on_cut =
       record {

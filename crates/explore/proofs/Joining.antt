@@ -2,7 +2,7 @@
 -- behind the others.
 use Rattle.std.proofs.Common.{◌≡◌, ℕ, ◌<◌, ◌+◌, List, [], ◌∷◌, ◌++◌, Some, length, refl, sym, ap, ◌∙◌, subst, arith, slice_get, ◌⊎◌, inl, inr}
 use Rattle.std.specs.Prelude.{slice_index_or, option_map}
-use Rattle.std.proofs.lemmas.List.{append_assoc, length-append, get_or_append_left}
+use Rattle.std.proofs.lemmas.List.{append-nil, append_assoc, length-append, get_or_append_left}
 use Rattle.std.proofs.lemmas.Option.{get_or_from_slice_get, slice_get_within, slice_get-map}
 use Rattle.std.proofs.Math.Numerals.{add-one}
 use Rattle.crash_free.specs.LiveVariables.Live.{Table}
@@ -92,15 +92,19 @@ one_part_more old new is i part rows k there a =
           ∙ ap (behind rows) (get_or_from_slice_get new i part no_rows there);
     }
 
+-- no part is kept, and one of those that are comes behind them
+pub kept_part_more : (parts : List Rows) (is js : List ℕ) (i : ℕ) (part rows : Rows) → slice_get parts i ≡ Some part → js ≡ is ++ i ∷ [] → AreParts parts is rows
+    → AreParts parts js (behind rows part)
+kept_part_more parts is js i part rows there e a =
+    subst (λ z. AreParts parts z (behind rows part)) (sym e) (one_part_more parts parts is i part rows ([], sym (append-nil parts)) there a)
+
 -- so come what a rank has of its own and what is left for it
-pub rank_more : (t : Table) (s : SimValue) (r : ℕ) (own mail : Rows) (a b c : List Rows) (is js ks : List ℕ)
-    → own ≡ and_own t s no_rows r → mail ≡ and_mail s no_rows r → ((rows : Rows) → AreParts a is rows → AreParts b js (behind rows own))
-    → ((rows : Rows) → AreParts b js rows → AreParts c ks (behind rows mail))
+pub rank_more : (t : Table) (s : SimValue) (r : ℕ) (a b c : List Rows) (is js ks : List ℕ)
+    → ((rows : Rows) → AreParts a is rows → AreParts b js (behind rows (and_own t s no_rows r)))
+    → ((rows : Rows) → AreParts b js rows → AreParts c ks (behind rows (and_mail s no_rows r)))
     → (rows : Rows) → AreParts a is rows → AreParts c ks (and_rank t s rows r)
-rank_more t s r own mail a b c is js ks e f first second rows before =
-    subst (AreParts c ks)
-    (ap (behind (behind rows own)) f ∙ ap (λ z. behind (behind rows z) (and_mail s no_rows r)) e ∙ sym (rank_in_parts t s rows r))
-    (second (behind rows own) (first rows before))
+rank_more t s r a b c is js ks first second rows before =
+    subst (AreParts c ks) (sym (rank_in_parts t s rows r)) (second (behind rows (and_own t s no_rows r)) (first rows before))
 
 -- so the parts of one rank more
 pub one_rank_more : (f : Rows → ℕ → Rows) (c : Rows) (r : ℕ) (parts : List Rows) (is : List ℕ) → AreParts parts is (f (and_below f c r) r)

@@ -35,6 +35,7 @@ abbrev AllLeadBack : (ℕ → Option Line) → List Line → Type 0
 AllLeadBack get [] = Unit {0}
 AllLeadBack get (l ∷ ls) = LeadsBack get l × AllLeadBack get ls
 
+-- so it is of two lists, one behind the other
 both : (get : ℕ → Option Line) (xs ys : List Line) → AllLeadBack get xs → AllLeadBack get ys → AllLeadBack get (xs ++ ys)
 both get [] ys h k = k
 both get (x ∷ xs) ys h k = (h.0, both get xs ys h.1 k)

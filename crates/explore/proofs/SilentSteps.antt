@@ -80,7 +80,7 @@ stored s (if_only v y r) = record { rank = refl; size = refl }
 stored s (if_else v y o r) = record { rank = refl; size = refl }
 stored s (loop v y r) = record { rank = refl; size = refl }
 
--- an inner step
+-- an inner step of a state with these parts leads to what follows it
 step_follows : (a : State) (s : Store) (b : Block) (k : Option MachineFault) (c : State) → a.store ≡ s → a.rest ≡ b → inner_of s b k ≡ Some c → Follows a c
 step_follows a s b None c at is e = by_rest (inner_rest s b) refl e
   where
@@ -99,6 +99,7 @@ step_follows a s b None c at is e = by_rest (inner_rest s b) refl e
         })
 step_follows a s b (Some k) c at is e = absurd cc
 
+-- so does each inner step
 pub inner_follows : (a b : State) → inner a ≡ Some b → Follows a b
 inner_follows a b e = step_follows a a.store a.rest a.fault b refl refl e
 
@@ -218,19 +219,22 @@ first_follows (if_only e y r) a act m is = still a
 first_follows (if_else e y o r) a act m is = still a
 first_follows (loop e y r) a act m is = still a
 
--- a rank that has faulted stays
+-- what an act leads to follows, and a rank that has faulted stays
 unless_follows : (fault : Option MachineFault) (a : State) (act : Act) (m : Option Message) → Follows a (unless_faulted fault a act m)
 unless_follows None a act m = first_follows a.rest a act m refl
 unless_follows (Some k) a act m = still a
 
+-- so each act leads to what follows it
 pub next_follows : (a : State) (act : Act) (m : Option Message) → Follows a (next a act m)
 next_follows a act m = unless_follows a.fault a act m
 
 -- Rank and size stay
 
+-- the second state has rank and size of the first
 abbrev pub Keeps : State → State → Type 0
 Keeps a b = (b.store.rank ≡ a.store.rank) × (b.store.size ≡ a.store.size)
 
+-- they stay in silent steps
 pub inners_keep : {a b : State} → Inners a b → Keeps a b
 inners_keep here = (refl, refl)
 inners_keep {a = a} (on {b = b} e r) =
@@ -238,6 +242,7 @@ inners_keep {a = a} (on {b = b} e r) =
     let more = inners_keep r in
     (more.0 ∙ one.rank, more.1 ∙ one.size)
 
+-- and in a run
 pub runs_keep : (a : State) (made : List (Act × Option Message)) (b : State) → Runs a made b → Keeps a b
 runs_keep a [] b is = (ap (λ z. z.store.rank) is, ap (λ z. z.store.size) is)
 runs_keep a (x ∷ xs) b (c, (mid, steps, makes, after), more) =

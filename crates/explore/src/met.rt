@@ -1,7 +1,7 @@
 //! Where runs stood that a search met.
-ghost use Rattle.std.specs.Prelude.{◌≡◌, ◌<◌, true, [], IfOk, IfSome, Ok, OnOk, length};
+ghost use Rattle.std.specs.Prelude.{◌≡◌, ◌<◌, true, [], IfOk, IfSome, Ok, OnOk, Some, length, slice_get};
 ghost use Rattle.crash_free.specs.LiveVariables.Live.{IsTableOf, Table};
-ghost use Rattle.crash_free.specs.Standing.{Rows, behind, and_rank, rows_of, StandsAt};
+ghost use Rattle.crash_free.specs.Standing.{Rows, no_rows, behind, and_own, and_mail, and_rank, rows_of, StandsAt};
 ghost use Rattle.explore.specs.Met.{AddsAtMost, StandsBy, WasMet, first_rows, state_rows};
 ghost use Rattle.explore.specs.Parts.{KeepsParts, AreParts};
 
@@ -163,14 +163,86 @@ fn add_rank(
     ensures keeps { KeepsParts parts.old parts.new }
     ensures adds { result ≡ Ok true → (rows : Rows) → AreParts parts.old state.old rows → AreParts parts.new state.new (and_rank live.now sim.now rows rank) }
 {
+    if !add_own(parts, part, sim, live, rank, state)? {
+        return Ok(false);
+    }
+    add_mail(parts, part, sim, rank, state)
+}
+
+// Adds what the rank has of its own, and answers whether there is room for it. Nothing is written
+// if it is what the rank of this number had in the last state, as of most ranks.
+fn add_own(
+    parts: &mut StandingParts,
+    part: &mut Standing,
+    sim: &Sim<'_>,
+    live: &Live,
+    rank: u8,
+    state: &mut State,
+) -> Result<bool, AllocError>
+    requires { rank < length sim.now.machines }
+    ensures keeps { KeepsParts parts.old parts.new }
+    ensures adds { result ≡ Ok true → (rows : Rows) → AreParts parts.old state.old rows → AreParts parts.new state.new (behind rows (and_own live.now sim.now no_rows rank)) }
+{
+    if let Some(place) = last_own(parts, state.len(), sim, live, rank) {
+        state.push(place)?;
+        return Ok(true);
+    }
     part.clear();
     sim.write_own(live, rank, part)?;
-    if !add_part(parts, part, state)? {
-        return Ok(false);
+    add_part(parts, part, state)
+}
+
+// Where the part of this number in the last state stands, if the rank has the same of its own.
+fn last_own(
+    parts: &StandingParts,
+    number: usize,
+    sim: &Sim<'_>,
+    live: &Live,
+    rank: u8,
+) -> Option<u32>
+    requires { rank < length sim.now.machines }
+    ensures { IfSome result (λ place. slice_get parts.now place ≡ Some (and_own live.now sim.now no_rows rank)) }
+{
+    let (place, part) = parts.last_part(number)?;
+    if sim.has_own(live, rank, part) {
+        Some(place)
+    } else {
+        None
+    }
+}
+
+// Adds the messages that the rank hasn't received, likewise.
+fn add_mail(
+    parts: &mut StandingParts,
+    part: &mut Standing,
+    sim: &Sim<'_>,
+    rank: u8,
+    state: &mut State,
+) -> Result<bool, AllocError>
+    requires { rank < length sim.now.machines }
+    ensures keeps { KeepsParts parts.old parts.new }
+    ensures adds { result ≡ Ok true → (rows : Rows) → AreParts parts.old state.old rows → AreParts parts.new state.new (behind rows (and_mail sim.now no_rows rank)) }
+{
+    if let Some(place) = last_mail(parts, state.len(), sim, rank) {
+        state.push(place)?;
+        return Ok(true);
     }
     part.clear();
     sim.write_mail(rank, part)?;
     add_part(parts, part, state)
+}
+
+// Where the part of this number in the last state stands, if the rank has the same messages left.
+fn last_mail(parts: &StandingParts, number: usize, sim: &Sim<'_>, rank: u8) -> Option<u32>
+    requires { rank < length sim.now.machines }
+    ensures { IfSome result (λ place. slice_get parts.now place ≡ Some (and_mail sim.now no_rows rank)) }
+{
+    let (place, part) = parts.last_part(number)?;
+    if sim.has_mail(rank, part) {
+        Some(place)
+    } else {
+        None
+    }
 }
 
 // Adds the part to the state, and answers whether there is room for it.

@@ -24,8 +24,8 @@ pub struct StandingParts {
     kept: Vec<Standing, Heap>,
     // where the last one of each hash is among them
     by_hash: BTreeMap<u64, u32, Heap>,
-    // where each part of the state stands that was written last: most parts of the next one are the
-    // same, and are then found with no hash
+    // where each part of the last state stands: most parts of the next one are the same, and are then
+    // neither written nor hashed
     last: [u32; MOST_PARTS],
     // how many numbers, of 8 bytes each, may still be kept
     room: usize,
@@ -61,10 +61,6 @@ impl StandingParts {
         ensures keeps { KeepsParts self.old self.new }
         ensures there { IfOk result (λ found. IfSome found (λ place. slice_get self.new place ≡ Some part.now)) }
     {
-        let last = self.last_of(number);
-        if is_at(&self.kept, last as usize, part) {
-            return Ok(Some(last));
-        }
         let found = self.find_or_keep(part)?;
         if let Some(place) = found {
             self.note_last(number, place);
@@ -72,12 +68,14 @@ impl StandingParts {
         Ok(found)
     }
 
-    // Where the part of this number in the last state stands, as far as is known.
-    fn last_of(&self, number: usize) -> u32 {
-        match self.last.get(number) {
-            Some(place) => *place,
-            None => 0,
-        }
+    /// The part of this number in the last state and its place, as far as they are
+    /// known.
+    pub fn last_part(&self, number: usize) -> Option<(u32, &Standing)>
+        ensures { IfSome result (λ last. slice_get self.now last.0 ≡ Some last.1.now) }
+    {
+        let place = *self.last.get(number)?;
+        let part = self.kept.get(place as usize)?;
+        Some((place, part))
     }
 
     fn note_last(&mut self, number: usize, place: u32)

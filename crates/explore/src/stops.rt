@@ -7,8 +7,7 @@ use limits::{Heap, MOST_RANKS};
 use std::alloc::AllocError;
 
 /// How many acts are made between two stops, or more. A stop takes a copy of all
-/// machines and their mail, which costs as much as some 20 acts, so there isn't one
-/// at each branch.
+/// machines, which costs as much as several acts, so there isn't one at each branch.
 const APART: usize = 12;
 
 /// How many stops are kept at most, besides the first.

@@ -41,6 +41,7 @@ none_behind : (k : ℕ) → dropped k [] ≡ []
 none_behind zero = refl
 none_behind (suc k) = none_behind k
 
+-- none is left if as many are dropped as there are, or more
 all_dropped : (ls : List Line) (k : ℕ) → length ls ≤ k → dropped k ls ≡ []
 all_dropped [] k h = none_behind k
 all_dropped (l ∷ ls) zero h = absurd (omega (arith, h))
@@ -65,6 +66,7 @@ length_more : (cs : List Compact) (c : Compact) → length (cs ++ c ∷ []) ≡ 
 length_more [] c = refl
 length_more (x ∷ cs) c = omega (arith, length_more cs c)
 
+-- so its count is
 pub counted_more : (cs ds : List Compact) (c : Compact) (k : ℕ) → length cs ≡ k → ds ≡ cs ++ c ∷ [] → length ds ≡ k + 1
 counted_more cs ds c k n d = ap length d ∙ length_more cs c ∙ ap (λ j. j + 1) n
 
@@ -75,6 +77,7 @@ compact_within cs p k h q =
     let m = h.count in
     omega (arith, n, m, q)
 
+-- and such a position is no more than a text may have lines
 pub compact_bound : (p : ProgramValue) (k : ℕ) → IsProgram p → k ≤ size (block_of p) → k ≤ most_lines
 compact_bound p k h q =
     let n = statement_count p h in
@@ -95,6 +98,7 @@ get_behind : (ls : List Line) (k : ℕ) → slice_get (behind ls) k ≡ slice_ge
 get_behind [] k = refl
 get_behind (l ∷ ls) k = refl
 
+-- so does the one at each position
 pub compact_there : (cs : List Compact) (ls : List Line) (k : ℕ) (c : Compact) → k < length cs → c ≡ get_or cs k c → AreCompact cs ls
     → IfSome (compact_line c) (λ m. option_map own_line (slice_get ls k) ≡ Some m)
 compact_there [] ls k c h e a = absurd (omega (arith, h))

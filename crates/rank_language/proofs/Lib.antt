@@ -21,3 +21,4 @@ pub mod Standing
 pub mod LineCounting
 pub mod Compacting
 pub mod Lining
+pub mod Sharing

@@ -28,15 +28,16 @@ placed_at v a (x ∷ ls) zero l h q =
     subst (IsPlaced v a) e h.0
 placed_at v a (x ∷ ls) (suc k) l h q = placed_at v a ls k l h.1 q
 
--- a line says what remains at the positions to which it leads, it leads to one of the program or behind its last, and its places
--- are in the tables
+-- a line says what remains at the positions to which it leads
 pub line_leads : (p : ProgramValue) (k : ℕ) (l : Line) → IsProgram p → slice_get p.statements k ≡ Some l → Leads (remaining (block_of p)) k l
 line_leads p k l h q = leads (block_of p) k l (line_there p k l h (sym q))
 
+-- it leads to a position of the program, or behind its last
 pub line_reaches : (p : ProgramValue) (k : ℕ) (l : Line) → IsProgram p → slice_get p.statements k ≡ Some l
     → (truth : Bool) → next_position l k truth ≤ size (block_of p)
 line_reaches p k l h q = reaches (block_of p) k l (line_there p k l h (sym q))
 
+-- its places are in the tables
 pub line_placed : (p : ProgramValue) (k : ℕ) (l : Line) → IsProgram p → slice_get p.statements k ≡ Some l
     → IsPlaced (length p.variables) (length p.arrays) l
 line_placed p k l h q = placed_at (length p.variables) (length p.arrays) p.statements k l h.placed (sym q)

@@ -3,11 +3,17 @@ use Rattle.std.specs.Prelude.{◌≡◌, ◌+◌, List, [], ◌∷◌, length, O
 use Rattle.rank_text.specs.declared.grammar.token.Operator.TheVariants.{Add, Subtract, Multiply, Divide, Remainder, Equal, NotEqual, Less, LessEqual, Greater, GreaterEqual}
 use Rattle.rank_language.specs.declared.compact.Compact.{Compact}
 use Rattle.rank_language.specs.declared.compact.Compact.TheVariants as compact
-use Rattle.rank_language.specs.Placed.{number, variable, item, operation, declare, declare_array, assign}
+use Rattle.rank_language.specs.declared.compact.Nested.{Nested}
+use Rattle.rank_language.specs.Seen.{operand_of}
+use Rattle.rank_language.specs.Placed.{Placed, number, variable, item, operation, declare, declare_array, assign}
 use Rattle.rank_language.specs.Placed.{assign_item, send, receive, probe, try_probe, print, collect}
 use Rattle.rank_language.specs.Correct.{IsProgram}
 use Rattle.rank_language.specs.Program.{ProgramValue}
 use Rattle.rank_language.specs.Block.{Line, simple_line, if_line, else_line, end_line, while_line, back_line}
+
+-- the expression of an operation on an operation
+abbrev pub nested_of : Nested → Placed
+nested_of n = operation n.outer (operation n.inner (operand_of n.left) (operand_of n.middle)) (operand_of n.right)
 
 -- A line as a rank makes it by itself, whatever block it opens or ends: a test is an `if`, what
 -- leads to a position an `else`, and what only leads on an `end`.
@@ -45,6 +51,7 @@ compact_line (compact.DivideNumber p a n) = Some (simple_line (assign p (operati
 compact_line (compact.DivideVariable p a b) = Some (simple_line (assign p (operation Divide (variable a) (variable b))))
 compact_line (compact.RemainderNumber p a n) = Some (simple_line (assign p (operation Remainder (variable a) (number n))))
 compact_line (compact.RemainderVariable p a b) = Some (simple_line (assign p (operation Remainder (variable a) (variable b))))
+compact_line (compact.SetNested p n) = Some (simple_line (assign p (nested_of n)))
 compact_line (compact.Item p a i) = Some (simple_line (assign p (item a (variable i))))
 compact_line (compact.SetItemNumber a i n) = Some (simple_line (assign_item a (variable i) (number n)))
 compact_line (compact.SetItemVariable a i b) = Some (simple_line (assign_item a (variable i) (variable b)))
@@ -60,6 +67,7 @@ compact_line (compact.GreaterNumber a n q) = Some (if_line (operation Greater (v
 compact_line (compact.GreaterVariable a b q) = Some (if_line (operation Greater (variable a) (variable b)) q)
 compact_line (compact.GreaterEqualNumber a n q) = Some (if_line (operation GreaterEqual (variable a) (number n)) q)
 compact_line (compact.GreaterEqualVariable a b q) = Some (if_line (operation GreaterEqual (variable a) (variable b)) q)
+compact_line (compact.TestNested n q) = Some (if_line (nested_of n) q)
 
 -- it spells the first of these lines, if it spells any
 abbrev pub IsCompact : Compact → List Line → Type 0

@@ -1,7 +1,7 @@
 //! Statements in compact form: those of which loops mostly consist, with their operands in place.
 ghost use Rattle.std.specs.Prelude.{◌≡◌, ◌+◌, IfOk, IfSome, length, map};
 ghost use Rattle.rank_language.specs.Block.{if_line, simple_line};
-ghost use Rattle.rank_language.specs.Compact.{compact_line, own_line, AreCompact};
+ghost use Rattle.rank_language.specs.Compact.{compact_line, nested_of, own_line, AreCompact};
 ghost use Rattle.rank_language.specs.Seen.{line_of, operand_of, placed_of};
 ghost use Rattle.rank_language.specs.Placed.{assign, assign_item, item, number, operation, variable};
 
@@ -10,6 +10,17 @@ use crate::statement::Statement;
 use limits::Heap;
 use rank_text::grammar::Operator;
 use std::alloc::AllocError;
+
+/// An operation whose left operand is an operation too, of numbers and variables alone: as
+/// `3 * x + 1`.
+#[derive(Clone, Copy)]
+pub struct Nested {
+    pub inner: Operator,
+    pub outer: Operator,
+    pub left: Operand,
+    pub middle: Operand,
+    pub right: Operand,
+}
 
 /// A statement as a machine makes it most quickly: by one look at what it is.
 ///
@@ -37,6 +48,8 @@ pub enum Compact {
     DivideVariable(usize, usize, usize),
     RemainderNumber(usize, usize, i64),
     RemainderVariable(usize, usize, usize),
+    /// A variable, and the operations that give its new value.
+    SetNested(usize, Nested),
     /// A variable, and the array and the index of the item that it gets.
     Item(usize, usize, usize),
     /// An array, the index of an item, and the item's new value.
@@ -54,6 +67,40 @@ pub enum Compact {
     GreaterVariable(usize, usize, usize),
     GreaterEqualNumber(usize, i64, usize),
     GreaterEqualVariable(usize, usize, usize),
+    /// A test of an operation's value, whatever the operation is.
+    TestNested(Nested, usize),
+}
+
+// A number or a variable as an operand.
+fn leaf(expression: &Expression) -> Option<Operand>
+    ensures { IfSome result (λ operand. operand_of operand ≡ placed_of expression.now) }
+{
+    match expression {
+        Expression::Number(number) => Some(Operand::Number(*number)),
+        Expression::Variable(place) => Some(Operand::Variable(*place)),
+        Expression::Item(_, _) | Expression::Reading(_) | Expression::Negation(_) => None,
+        Expression::Operation(_, _, _) | Expression::Simple(_, _, _) => None,
+    }
+}
+
+// The operations of an expression that is an operation on these two.
+fn nested_in(outer: Operator, left: &Expression, right: &Expression) -> Option<Nested>
+    ensures { IfSome result (λ nested. nested_of nested ≡ operation outer (placed_of left.now) (placed_of right.now)) }
+{
+    let right = leaf(right)?;
+    let (inner, left, middle) = match left {
+        Expression::Simple(inner, place, middle) => (*inner, Operand::Variable(*place), *middle),
+        Expression::Operation(inner, left, middle) => (*inner, leaf(left)?, leaf(middle)?),
+        Expression::Number(_) | Expression::Variable(_) | Expression::Item(_, _) => return None,
+        Expression::Reading(_) | Expression::Negation(_) => return None,
+    };
+    Some(Nested {
+        inner,
+        outer,
+        left,
+        middle,
+        right,
+    })
 }
 
 // A test of a variable and a number.
@@ -99,9 +146,12 @@ fn test_of(condition: &Expression, otherwise: usize) -> Compact
         Expression::Simple(operator, left, Operand::Variable(right)) => {
             variable_test(*operator, *left, *right, otherwise)
         }
+        Expression::Operation(operator, left, right) => match nested_in(*operator, left, right) {
+            Some(nested) => Compact::TestNested(nested, otherwise),
+            None => Compact::Other,
+        },
         Expression::Number(_) | Expression::Variable(_) | Expression::Item(_, _) => Compact::Other,
         Expression::Reading(_) | Expression::Negation(_) => Compact::Other,
-        Expression::Operation(_, _, _) => Compact::Other,
     }
 }
 
@@ -167,8 +217,11 @@ fn assignment_of(place: usize, value: &Expression) -> Compact
         Expression::Variable(from) => Compact::SetVariable(place, *from),
         Expression::Simple(operator, left, right) => operation_to(place, *operator, *left, *right),
         Expression::Item(array, index) => item_to(place, *array, index),
+        Expression::Operation(operator, left, right) => match nested_in(*operator, left, right) {
+            Some(nested) => Compact::SetNested(place, nested),
+            None => Compact::Other,
+        },
         Expression::Reading(_) | Expression::Negation(_) => Compact::Other,
-        Expression::Operation(_, _, _) => Compact::Other,
     }
 }
 

@@ -14,7 +14,7 @@ mod resolve_form;
 pub mod statement;
 mod text_line;
 
-pub use compact::Compact;
+pub use compact::{Compact, Nested};
 pub use expression::{Expression, Operand};
 pub use line_numbers::statement_lines;
 pub use lined::LinedProgram;

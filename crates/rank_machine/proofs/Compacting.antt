@@ -1,15 +1,17 @@
 -- A compact form spells a line that leads where its statement's line does, and stores the same: so a step that is made by it is
 -- the machine's own.
-use Rattle.std.proofs.Common.{◌≡◌, ◌≢◌, ℕ, ◌+◌, ◌<◌, ◌≤◌, Bool, true, false, ℤ, length, map, Ok, Err, Option, Some, None, option_map, IfSome, IsNone, slice_get}
+use Rattle.std.proofs.Common.{◌≡◌, ◌≢◌, ℕ, ◌+◌, ◌<◌, ◌≤◌, Bool, true, false, ℤ, length, map, Ok, Err, Option, Some, None, option_map, IfSome, IsNone, slice_get, if◌then◌else◌}
 use Rattle.std.proofs.Common.{refl, sym, ap, subst, ◌∙◌}
 use Rattle.rank_language.specs.Placed.{Placed, declare, declare_array, assign, assign_item, send, receive, probe, try_probe, print, collect}
 use Rattle.rank_language.specs.Block.{Line, simple_line, if_line, else_line, end_line, while_line, back_line, Leads, remaining, next_position, size}
 use Rattle.rank_language.specs.Program.{ProgramValue, IsPlaced, block_of}
-use Rattle.rank_language.specs.Compact.{own_line}
+use Rattle.rank_language.specs.declared.compact.Compact.{Compact}
+use Rattle.rank_language.specs.Compact.{compact_line, own_line}
 use Rattle.rank_machine.specs.declared.want.Want.TheVariants as want
 use Rattle.rank_machine.specs.Values.{Store, Valued, ◌>>=◌, value}
 use Rattle.rank_machine.specs.Collectives.{own_end, stored_or}
 use Rattle.rank_machine.specs.States.{assigned, item_value, item_assigned}
+use Rattle.rank_machine.specs.Spelled.{test_expression}
 use Rattle.rank_machine.specs.Wants.{or_fault, want_of}
 use Rattle.rank_machine.specs.Machine.{MachineValue, standing, line_at, line_want, machine_want, machine_want_at, where_valued, is_true}
 use Rattle.rank_machine.specs.Machine.{own_next, next_after, line_store, store_after, IsMachine, IsMade}
@@ -85,6 +87,23 @@ compact_placed v a (Some m) (Some l) h p =
     let e : own_line l ≡ m = cc in
     subst (IsPlaced v a) e (own_placed v a l (p l refl))
 
+-- the form is a test, and this position follows where it doesn't hold
+abbrev pub IsTest : ℕ → Compact → Type 0
+IsTest q c = compact_line c ≡ Some (if_line (test_expression (compact_line c)) q)
+
+-- of two positions a test's truth takes the one that its line says
+chosen : (e : Placed) (q n : ℕ) (truth : Bool) → (if truth then n + 1 else q) ≡ next_position (if_line e q) n truth
+chosen e q n true = refl
+chosen e q n false = refl
+
+-- so it leads where its line does
+pub test_led : (s : Store) (c : Compact) (q n : ℕ) → IsTest q c
+    → where_valued (value s (test_expression (compact_line c))) (if is_true (value s (test_expression (compact_line c))) then n + 1 else q)
+    ≡ next_after s (compact_line c) n
+test_led s c q n h =
+    let e = test_expression (compact_line c) in
+    ap (where_valued (value s e)) (chosen e q n (is_true (value s e))) ∙ ap (λ o. next_after s o n) (sym h)
+
 -- a value that faults is stored nowhere
 assigned_nowhere : (s : Store) (p n : ℕ) (v : Valued ℤ) → where_valued v n ≡ None → assigned s p v ≡ s
 assigned_nowhere s p n (Ok z) e = absurd cc
@@ -118,6 +137,7 @@ unled s end_line n e = refl
 unled s (while_line x q) n e = refl
 unled s (back_line q) n e = refl
 
+-- so it is where there may be no line
 pub unled_after : (s : Store) (o : Option Line) (n : ℕ) → next_after s o n ≡ None → store_after s o ≡ s
 unled_after s None n e = refl
 unled_after s (Some l) n e = unled s l n e

@@ -13,7 +13,7 @@ use Rattle.payload_log.specs.Sender.{IsSentBy}
 use Rattle.rank_language.specs.Program.{ProgramValue}
 use Rattle.checkpoint.specs.Image.{ImageValue, at_rest}
 use Rattle.checkpoint.specs.Savable.{IsSavable}
-use Rattle.checkpoint.specs.Spelling.{spelling, text_in, lane}
+use Rattle.checkpoint.specs.Spelling.{spelling, text_in}
 use Rattle.checkpoint.proofs.Whole.{lanes_rest}
 use Rattle.rank_node.specs.declared.due.Due.{Due}
 use Rattle.rank_node.specs.Stored.{Stored}

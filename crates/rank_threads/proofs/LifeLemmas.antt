@@ -1,5 +1,5 @@
 -- What a life counts, by the end with which its station comes back; and life after life.
-use Rattle.std.proofs.Common.{◌≡◌, ◌≢◌, ◌⊎◌, inl, inr, ℕ, Bool, true, false, is_some, List, Option, Some, None, refl, sym, ap, ◌∙◌}
+use Rattle.std.proofs.Common.{◌≡◌, ◌≢◌, ◌⊎◌, inl, inr, ℕ, Bool, true, false, is_some, Option, Some, None, refl, sym, ap, ◌∙◌}
 use Rattle.event_logger.specs.Desks.{own_row}
 use Rattle.rank_language.specs.Program.{ProgramValue}
 use Rattle.rank_node.specs.Phases.{stable_in}

@@ -10,7 +10,7 @@ use denote.Struct.Field.{shr_ref_field}
 use denote.Struct.Tuple.{TupleAt, field_at, type_at}
 use Rattle.std.proofs.Crossing.{crosses}
 use Rattle.std.proofs.sync.OnceLock.TheSendSync as once
-use Rattle.crash_free.proofs.Sharing.{program_sync}
+use Rattle.rank_language.proofs.Sharing.{program_sync}
 use Rattle.rank_threads.proofs.life.parcel.Parcel.TheSendSync as parcel
 use Rattle.rank_threads.specs.contracts.life.parcel.Parcel as Parcel
 use Rattle.rank_threads.specs.contracts.shared.Shared as Shared

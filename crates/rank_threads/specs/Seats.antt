@@ -62,8 +62,8 @@ pub record IsSeated (program : ProgramValue) (first : Station) (s : Seat) : Type
 abbrev pub MovesOn : ProgramValue → Seat → Seat → Type 0
 MovesOn program a b = (first : Station) → IsSeated program first a → IsSeated program first b
 
--- The ranks that were first at these stations are at these seats, in the same order, but for those
--- of the last stations, which were kept already.
+-- The ranks that were first at these stations are at these seats, in the same order, except for
+-- those of the last stations, which were kept already.
 abbrev pub AreSeatedBut : ProgramValue → List Station → List Seat → List Station → Type 0
 AreSeatedBut program [] [] kept = WereKept program [] kept
 AreSeatedBut program [] (s ∷ ss) kept = ⊥

@@ -1,13 +1,13 @@
 -- Why no execution misses what it was shown: what a search calls shown is what the rank's own acts
 -- took or hit, of which the world says that no probe that misses names it.
 use Rattle.std.proofs.Common.{◌≡◌, ℕ, suc, ◌+◌, ◌<◌, ◌≤◌, ◌⊎◌, inl, inr, ⊎_elim, Bool, true, false, ◌==◌, ◌&&◌, ◌||◌, nat_lt, List, [], ◌∷◌, ◌++◌}
-use Rattle.std.proofs.Common.{Some, Option, sym, ap, subst, ◌∙◌, arith}
+use Rattle.std.proofs.Common.{Some, Option, sym, subst, ◌∙◌, arith}
 use Rattle.std.proofs.lemmas.Bool.{eqb-true, ltb-true, and_parts, or_cases}
 use Rattle.rank_machine.specs.States.{State}
 use Rattle.rank_machine.specs.Acts.{Act, Message, sends, takes, hits, misses, prints, Matches}
 use Rattle.crash_free.specs.Runs.{Passed, History, at_place, history, sent, sends_from, looked_up, add_if}
 use Rattle.crash_free.specs.Sim.{start_of}
-use Rattle.explore.specs.Shown.{shows_it, shows_to, was_shown, MayMissShown, MissesShown}
+use Rattle.explore.specs.Shown.{shows_it, shows_to, was_shown, MissesShown}
 use Rattle.bare_world.specs.World.{WorldValue, size}
 use Rattle.bare_world.specs.Misses.{Shows, IsShown, NoneMissed}
 use Rattle.run_events.specs.Missing.{MissesNothingShown}

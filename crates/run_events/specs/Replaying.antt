@@ -1,5 +1,5 @@
--- Replay is exact: a rank that crashed and made its acts again is, but for silent steps, where it
--- was.
+-- Replay is exact: a rank that crashed and made its acts again is where it was, except for silent
+-- steps.
 -- Source: piecewise determinism, replay up to the state before the failure, Elnozahy, Alvisi, Wang
 -- and Johnson 2002, section 2; Alvisi and Marzullo 1998, section 2.
 use Rattle.std.specs.Prelude.{◌≡◌, ℕ, ◌⊎◌}
@@ -13,7 +13,7 @@ abbrev pub AreSilentlyOne : State → State → Type 0
 AreSilentlyOne a b = Inners a b ⊎ Inners b a
 
 -- Where a rank of the first world owes nothing, and has made as many acts in the second one, its
--- program is where it was, but for silent steps.
+-- program is where it was, except for silent steps.
 abbrev pub ReplaysExactly : WorldValue → WorldValue → Type 0
 ReplaysExactly w w' =
     (r : ℕ) (v v' : Live) → IsLive w r v → owed v ≡ 0 → IsLive w' r v' → v'.rank.clock ≡ v.rank.clock

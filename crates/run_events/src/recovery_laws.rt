@@ -38,7 +38,7 @@ pub fn law_no_orphan(world: &World<'_>)
 
 /// A law, for proofs alone: after what `World::run` does in its clause
 /// `follows`, a rank that owed nothing before, and has made as many acts again,
-/// is where it was, but for silent steps.
+/// is where it was, except for silent steps.
 #[tactic(auto, using(crate::proofs::Replaying::replays_exactly))]
 pub fn law_replay_is_exact()
     ensures { (w w' : WorldValue) (events : List WorldEvent) (answers : List Reply) → FollowsAll w events answers w' → StandsFor w w.run

@@ -10,7 +10,6 @@ use Rattle.run_shown.specs.Trace.Places.{AreFound}
 use Rattle.run_shown.specs.declared.trace.place.Place.{Place}
 use Rattle.runner.specs.Apart.{AreLinesApart, IsLineOfPrint, print_at, values_in, values_of}
 use Rattle.runner.specs.SentLines.{line_of}
-use Rattle.runner.specs.declared.commands.apart.Apart.{Apart}
 
 -- a rank's values stand where it stands
 values_there : (outcome : List RankOutcome) (rank : ℕ) (x : RankOutcome) → slice_get outcome rank ≡ Some x → values_of outcome rank ≡ x.lines

@@ -15,9 +15,9 @@ use Rattle.runner.specs.declared.commands.apart.Apart.{Apart}
 use Rattle.runner.specs.declared.commands.determinism.Determinism.TheVariants as known
 
 -- all was found, and it is alike
-pub is_same : (program : ProgramValue) (lines : List ℕ) (job : ExploreJob) (found : ExploredValue) → IsFoundBy program Buffered job found → found.complete ≡ true
-    → AreAlike found.outcomes → IsKnown program lines job.ranks found known.Same
-is_same program lines job found searched complete alike =
+pub is_same : (program : ProgramValue) (lines : List ℕ) (job : ExploreJob) (runs : ℕ) (found : ExploredValue) → IsFoundBy program Buffered job runs found
+    → found.complete ≡ true → AreAlike found.outcomes → IsKnown program lines job.ranks found known.Same
+is_same program lines job runs found searched complete alike =
     let all = searched.complete complete in
     IsKnown.same complete (λ one other a b. alike.alike one other (all.no_others one a) (all.no_others other b))
 
@@ -27,10 +27,10 @@ pub is_stopped : (program : ProgramValue) (lines : List ℕ) (job : ExploreJob) 
 is_stopped program lines job found stopped alike = IsKnown.stopped stopped alike
 
 -- two that were found differ
-pub is_differing : (program : ProgramValue) (lines : List ℕ) (job : ExploreJob) (found : ExploredValue) (one other : List RankOutcome) (apart : Apart)
-    (rank : ℕ) → IsFoundBy program Buffered job found → ArePartedAt rank one other found.outcomes → apart.rank ≡ rank
+pub is_differing : (program : ProgramValue) (lines : List ℕ) (job : ExploreJob) (runs : ℕ) (found : ExploredValue) (one other : List RankOutcome) (apart : Apart)
+    (rank : ℕ) → IsFoundBy program Buffered job runs found → ArePartedAt rank one other found.outcomes → apart.rank ≡ rank
     → AreLinesApart program lines job.ranks one other apart → IsKnown program lines job.ranks found (known.Differ apart)
-is_differing program lines job found one other apart rank searched parted same at_lines = IsKnown.differ (record {
+is_differing program lines job runs found one other apart rank searched parted same at_lines = IsKnown.differ (record {
   one = one;
   other = other;
   one_possible = searched.possible one parted.one_among;

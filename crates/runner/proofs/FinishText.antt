@@ -1,6 +1,6 @@
 -- The text of events by which a world ends, and why a world isn't led to its end.
 use Rattle.std.proofs.Common.{◌≡◌, ℕ, ◌≤◌, inl, inr, List, refl, subst}
-use Rattle.runner.specs.FinishText.{EndsBy, IsFinishText, IsWithoutEnd, refusal_of_end}
+use Rattle.runner.specs.FinishText.{IsFinishText, IsWithoutEnd, refusal_of_end}
 use Rattle.runner.specs.declared.commands.refusal.Refusal.{Refusal}
 use Rattle.runner.specs.declared.commands.refusal.Refusal.TheVariants as refusal
 use Rattle.world_model.specs.EventsText.Written.{events_text}

@@ -1,5 +1,5 @@
 -- Why what a refusal says is so.
-use Rattle.std.proofs.Common.{◌≡◌, ◌≢◌, ◌<◌, ℕ, Bool, true, List, Option, Some, None, Result, Ok, Err, inl, inr, refl, subst}
+use Rattle.std.proofs.Common.{◌≡◌, ◌≢◌, ◌<◌, ℕ, List, Option, Some, None, Result, Err, inl, inr, subst}
 use Rattle.std.specs.Borrow.{Bor}
 use Rattle.command_line.specs.declared.explain.ExplainJob.{ExplainJob}
 use Rattle.command_line.specs.declared.exploring.ExploreForm.TheVariants as explore_form
@@ -26,8 +26,8 @@ use Rattle.rank_text.specs.declared.script.line.ScriptLine.{ScriptLine}
 use Rattle.rank_threads.specs.declared.report.RunFault.{RunFault}
 use Rattle.run_events.specs.declared.fault.PlayFault.{PlayFault}
 use Rattle.runner.specs.FinishText.{IsWithoutEnd}
-use Rattle.runner.specs.Reasons.{HasDrawnFault, HasEventsFault, HasNoEnd, HasNoEvents}
-use Rattle.runner.specs.Reasons.{HasNoOutcome, HasNoOutcomeOf, HasNoReport, HasOutcomeFault, HasProgramFault, HasScriptFault}
+use Rattle.runner.specs.Reasons.{HasEventsFault, HasNoEnd}
+use Rattle.runner.specs.Reasons.{HasNoOutcome, HasNoOutcomeOf, HasOutcomeFault, HasProgramFault, HasScriptFault}
 use Rattle.runner.specs.Reasons.{IsEventsRefusal, IsExplainRefusal, IsFileRefusal, IsJudgeRefusal, IsOutcomeRefusal, IsProgramRefusal}
 use Rattle.runner.specs.Reasons.{IsRunRefusal}
 use Rattle.runner.specs.Reasons.{IsScriptRefusal, IsSearchRefusal, IsSoakRefusal, IsSoakScriptRefusal, IsTraceRefusal, IsUndrawn}

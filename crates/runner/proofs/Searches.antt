@@ -1,5 +1,5 @@
 -- How what is said of a search is an answer.
-use Rattle.std.proofs.Common.{◌≡◌, ◌≤◌, ◌⊎◌, ℕ, true, false, List, [], ◌++◌, refl, ap, append_assoc, append-nil, subst, sym, ◌∙◌}
+use Rattle.std.proofs.Common.{◌≡◌, ◌≤◌, ◌⊎◌, ℕ, true, false, List, [], ◌++◌, refl, ap, append_assoc, append-nil, subst, sym, arith, ◌∙◌}
 use Rattle.std.specs.Prelude.{IsTrue}
 use Rattle.command_line.specs.declared.exploring.ExploreForm.TheVariants as form
 use Rattle.command_line.specs.declared.exploring.ExploreJob.{ExploreJob}
@@ -25,18 +25,19 @@ use Rattle.runner.specs.Events.{PlaysOutcome}
 use Rattle.runner.specs.Modes.{mode_of}
 use Rattle.runner.specs.OutcomesText.{IsMarkedObject, IsMarkedSummary, IsMarkedText}
 use Rattle.runner.specs.Safety.{IsVerdict, needs_second}
-use Rattle.runner.specs.Searches.{HasSearchStatus, IsDeterminismText, IsExploreAnswer, IsFoundBy, IsPrinted, IsSafetyOf, IsSearchAnswer, IsSecond, IsToldOf}
+use Rattle.runner.specs.Searches.{HasSearchStatus, IsDeterminismText, IsExploreAnswer, IsFoundBy, IsKnownIn, IsKnownWithin, IsPrinted, IsSafetyOf, IsSearchAnswer, IsSecond, IsToldOf}
 use Rattle.runner.specs.declared.commands.determinism.Determinism.{Determinism}
+use Rattle.runner.specs.declared.commands.determinism.Determinism.TheVariants as known
 use Rattle.runner.specs.declared.explored.safety.Safety.{Safety}
 use Rattle.runner.specs.declared.explored.safety.Safety.TheVariants as safety
-use Rattle.synchronous.specs.Telling.{IsTelling}
-use Rattle.synchronous.specs.declared.telling.Telling.{Telling}
-use Rattle.synchronous.specs.declared.telling.Telling.TheVariants as telling
+use Rattle.telling.specs.Telling.{IsTelling}
+use Rattle.telling.specs.declared.program.Telling.{Telling}
+use Rattle.telling.specs.declared.program.Telling.TheVariants as telling
 use Rattle.explore.specs.declared.send_mode.SendMode.{SendMode}
 use Rattle.explore.specs.declared.send_mode.SendMode.TheVariants.{Buffered, Synchronous}
 
--- what a search found within limits that are the job's, where crashes add no outcome to those of a complete one
-pub is_found_by : (program : ProgramValue) (mode : SendMode) (job : ExploreJob) (found : ExploredValue) (runs steps : ℕ) → runs ≡ job.runs → steps ≡ job.steps
+-- what a search found within so many runs and the job's steps, where crashes add no outcome to those of a complete one
+pub is_found_by : (program : ProgramValue) (mode : SendMode) (job : ExploreJob) (found : ExploredValue) (runs steps : ℕ) → steps ≡ job.steps
     → ((p : ProgramValue) (n : ℕ) (outcomes : List (List RankOutcome)) (o : OutcomeValue) → EndsAmong p n outcomes → IsFinal p n o
     → IsMasked outcomes n o)
     → ((outcome : List RankOutcome) → IsAmong found.outcomes outcome → IsPossibleUnder mode program job.ranks outcome)
@@ -46,8 +47,8 @@ pub is_found_by : (program : ProgramValue) (mode : SendMode) (job : ExploreJob) 
     → (IsSmall mode program job.ranks runs steps → found.complete ≡ true)
     → (found.complete ≡ false → (found.runs ≡ runs) ⊎ IsTrue found.out_of_steps)
     → (found.out_of_steps ≡ true → GoesBeyond mode program job.ranks steps) → AreDistinct found.outcomes → found.runs ≤ runs → found.closed ≡ false
-    → IsFoundBy program mode job found
-is_found_by program mode job found runs steps these those law possible complete left ends small stopped beyond distinct few_runs plain = record {
+    → IsFoundBy program mode job runs found
+is_found_by program mode job found runs steps those law possible complete left ends small stopped beyond distinct few_runs plain = record {
   possible = possible;
   complete = complete;
   closed = λ is. absurd (no is);
@@ -55,14 +56,13 @@ is_found_by program mode job found runs steps these those law possible complete 
   all_left = λ is. absurd (no is);
   endless = λ is. absurd (no is);
   ends = ends;
-  masks = masks;
-  only = λ same all outcome is. prints_only program job.ranks found.outcomes outcome (masks same all) is;
-  small = subst (λ (r : ℕ). IsSmall mode program job.ranks r job.steps → found.complete ≡ true) these
-      (subst (λ (s : ℕ). IsSmall mode program job.ranks runs s → found.complete ≡ true) those small);
-  stopped = λ is _. subst (λ (r : ℕ). (found.runs ≡ r) ⊎ IsTrue found.out_of_steps) these (stopped is);
+  crashes = λ same all.
+      record { masks = masks same all; only = λ outcome is. prints_only program job.ranks found.outcomes outcome (masks same all) is };
+  small = subst (λ (s : ℕ). IsSmall mode program job.ranks runs s → found.complete ≡ true) those small;
+  stopped = λ is _. stopped is;
   beyond = subst (λ (s : ℕ). found.out_of_steps ≡ true → GoesBeyond mode program job.ranks s) those beyond;
   distinct = distinct;
-  few_runs = subst (λ (r : ℕ). found.runs ≤ r) these few_runs;
+  few_runs = few_runs;
 }
   where
     masks : mode ≡ Buffered → found.complete ≡ true → AreMasked program job.ranks found.outcomes
@@ -73,12 +73,12 @@ is_found_by program mode job found runs steps these those law possible complete 
     no is = (let e : true ≡ false = sym is ∙ plain in absurd cc)
 
 -- what a search found that closes over states, where one that isn't complete was made before
-pub ends_found_by : (program : ProgramValue) (mode : SendMode) (job : ExploreJob) (before found : ExploredValue) (runs steps : ℕ) → runs ≡ job.runs → steps ≡ job.steps
+pub ends_found_by : (program : ProgramValue) (mode : SendMode) (job : ExploreJob) (before found : ExploredValue) (runs steps : ℕ) → steps ≡ job.steps
     → before.complete ≡ false → (IsSmall mode program job.ranks runs steps → before.complete ≡ true)
     → AreAll mode program job.ranks found.outcomes → AreLeftovers mode program job.ranks true found.outcomes found.left → MayGoOnForEver mode program job.ranks
     → (found.closed ≡ true) × (found.complete ≡ false) → AreDistinct found.outcomes → found.runs ≤ runs
-    → (found.out_of_steps ≡ true → GoesBeyond mode program job.ranks steps) → IsFoundBy program mode job found
-ends_found_by program mode job before found runs steps these those stopped small all left endless closed distinct few_runs beyond = record {
+    → (found.out_of_steps ≡ true → GoesBeyond mode program job.ranks steps) → IsFoundBy program mode job runs found
+ends_found_by program mode job before found runs steps those stopped small all left endless closed distinct few_runs beyond = record {
   possible = all.possible;
   complete = λ _. all;
   closed = λ _. all;
@@ -86,14 +86,12 @@ ends_found_by program mode job before found runs steps these those stopped small
   all_left = λ _. left;
   endless = λ _. endless;
   ends = λ is. absurd (no is);
-  masks = λ _ is. absurd (no is);
-  only = λ _ is. absurd (no is);
-  small = λ is. absurd (no_small (subst (λ (r : ℕ). IsSmall mode program job.ranks r steps) (sym these)
-      (subst (λ (s : ℕ). IsSmall mode program job.ranks job.runs s) (sym those) is)));
+  crashes = λ _ is. absurd (no is);
+  small = λ is. absurd (no_small (subst (λ (s : ℕ). IsSmall mode program job.ranks runs s) (sym those) is));
   stopped = λ _ not. (let e : true ≡ false = sym closed.0 ∙ not in absurd cc);
   beyond = subst (λ (s : ℕ). found.out_of_steps ≡ true → GoesBeyond mode program job.ranks s) those beyond;
   distinct = distinct;
-  few_runs = subst (λ (r : ℕ). found.runs ≤ r) these few_runs;
+  few_runs = few_runs;
 }
   where
     no : found.complete ≡ true → ⊥
@@ -136,21 +134,38 @@ json_printed lines program job found told out is text =
     }
 
 -- the events of the outcome that is named are printed
-pub events_printed : (lines : List ℕ) (program : ProgramValue) (job : ExploreJob) (found : ExploredValue) (told : Safety) (out : List ℕ) (number : ℕ)
-    → job.form ≡ form.Events number → PlaysOutcome (mode_of job.synchronous) program job.ranks found.outcomes number out → IsPrinted lines program job found told out
-events_printed lines program job found told out number is played = record {
+pub events_printed : (lines : List ℕ) (program : ProgramValue) (job : ExploreJob) (mode : SendMode) (found : ExploredValue) (told : Safety) (out : List ℕ) (number : ℕ)
+    → mode ≡ mode_of job.synchronous → job.form ≡ form.Events number → PlaysOutcome mode program job.ranks found.outcomes number out
+    → IsPrinted lines program job found told out
+events_printed lines program job mode found told out number by_mode is played = record {
   text = λ other. (let e : form.Events number ≡ form.Text = sym is ∙ other in absurd cc);
   summary = λ other. (let e : form.Events number ≡ form.Summary = sym is ∙ other in absurd cc);
   json = λ other. (let e : form.Events number ≡ form.Json = sym is ∙ other in absurd cc);
   events = λ another other. let e : form.Events number ≡ form.Events another = sym is ∙ other in
       let same : number ≡ another = cc in
-      subst (λ (n : ℕ). PlaysOutcome (mode_of job.synchronous) program job.ranks found.outcomes n out) same played;
+      subst (λ (n : ℕ). PlaysOutcome (mode_of job.synchronous) program job.ranks found.outcomes n out) same
+      (subst (λ m. PlaysOutcome m program job.ranks found.outcomes number out) by_mode played);
 }
 
 -- what a search of a telling program says
-pub of_telling : (what : Telling) (text : List ℕ) (program : ProgramValue) (lines : List ℕ) (job : ExploreJob) (found : ExploredValue) (told : Determinism)
-    → IsTelling what text program lines → IsFoundBy program Buffered job found → IsKnown program lines job.ranks found told → IsToldOf what text job told
-of_telling what text program lines job found told is searched told_of = IsToldOf.searched program lines found is searched told_of
+pub of_search : (program : ProgramValue) (lines : List ℕ) (job : ExploreJob) (runs : ℕ) (found : ExploredValue) (told : Determinism)
+    → IsFoundBy program Buffered job runs found → IsKnown program lines job.ranks found told → IsKnownIn runs program lines job told
+of_search program lines job runs found told searched told_of = record { found = found; searched = searched; told_of = told_of }
+
+-- a brief search that came to no limit says enough
+pub of_brief : (program : ProgramValue) (lines : List ℕ) (job : ExploreJob) (runs : ℕ) (told : Determinism) → runs ≤ job.runs
+    → IsKnownIn runs program lines job told → (told ≡ known.Stopped → ⊥) → IsKnownWithin program lines job told
+of_brief program lines job runs told few searched enough = record { runs = runs; few = few; searched = searched; whole = λ is. absurd (enough is) }
+
+-- one in all runs of the job says what there is to say
+pub of_whole : (program : ProgramValue) (lines : List ℕ) (job : ExploreJob) (told : Determinism) → IsKnownIn job.runs program lines job told
+    → IsKnownWithin program lines job told
+of_whole program lines job told searched = record { runs = job.runs; few = omega arith; searched = searched; whole = λ _. refl }
+
+-- what is known of a telling program is told
+pub of_telling : (what : Telling) (text : List ℕ) (program : ProgramValue) (lines : List ℕ) (job : ExploreJob) (told : Determinism)
+    → IsTelling what text program lines → IsKnownWithin program lines job told → IsToldOf what text job told
+of_telling what text program lines job told is known_within = IsToldOf.searched program lines is known_within
 
 -- sends and receptions aren't looked for
 pub untold_text : (text : List ℕ) (job : ExploreJob) (found : ExploredValue) (old new : List ℕ) → needs_telling job found ≡ false → new ≡ old
@@ -175,7 +190,7 @@ told_text text job found sends receptions old middle new some of_sends of_recept
 
 -- what was found, printed with whether the program is safe and its status, is an answer
 pub is_search_answer : (text lines : List ℕ) (program : ProgramValue) (job : ExploreJob) (found : ExploredValue) (told : Safety) (before out : List ℕ)
-    (status : ℕ) → IsFoundBy program (mode_of job.synchronous) job found → IsSafetyOf lines program job found told → IsPrinted lines program job found told before
+    (status : ℕ) → IsFoundBy program (mode_of job.synchronous) job job.runs found → IsSafetyOf lines program job found told → IsPrinted lines program job found told before
     → (behind : List ℕ) × IsDeterminismText text job found behind × (out ≡ before ++ behind)
     → HasSearchStatus found status → IsSearchAnswer text lines program job out status
 is_search_answer text lines program job found told before out status searched safety printed determinism ended = record {
@@ -226,5 +241,5 @@ is_second lines program job found told is needed second = record {
 
 -- and what a second search says
 pub of_second : (lines : List ℕ) (program : ProgramValue) (job : ExploreJob) (found : ExploredValue) (told : Safety)
-    → IsFoundBy program Synchronous job found → IsVerdict lines program job.ranks found told → IsSecond lines program job told
+    → IsFoundBy program Synchronous job job.runs found → IsVerdict lines program job.ranks found told → IsSecond lines program job told
 of_second lines program job found told searched verdict = record { found = found; searched = searched; verdict = verdict }

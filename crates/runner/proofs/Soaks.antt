@@ -1,7 +1,6 @@
 -- How runs under scripts that were drawn are counted, one after another.
 use Rattle.std.proofs.Common.{◌≡◌, ◌≢◌, ◌↔◌, ◌≤◌, ◌+◌, ◌⊎◌, ◌++◌, ℕ, zero, suc, Bool, List, [], ◌∷◌, Some, true, false, codes, length, nat_lt, IsTrue}
 use Rattle.std.proofs.lemmas.List.{append_assoc}
-use Rattle.std.specs.Fmt.{decimal}
 use Rattle.std.proofs.Common.{inl, inr, slice_get, slice_set, string_bytes, subst, sym, refl, ap, ◌∙◌}
 use Rattle.command_line.specs.declared.soaking.SoakJob.{SoakJob}
 use Rattle.command_line.specs.declared.soaking.SoakScriptJob.{SoakScriptJob}

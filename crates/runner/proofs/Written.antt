@@ -19,6 +19,7 @@ use Rattle.runner.specs.declared.explored.lined.LinedLeftover.{LinedLeftover}
 use Rattle.runner.specs.declared.explored.parting.Parted.{Parted}
 use Rattle.runner.specs.declared.explored.safety.Safety.{Safety}
 use Rattle.run_events.specs.Halting.{AllHalt}
+use Rattle.explore.specs.declared.send_mode.SendMode.{SendMode}
 
 -- in an empty text none is written
 pub none_written : (outcomes : List (List RankOutcome)) (choices : List (List Noted)) (left : List (List (List LinedLeftover))) (lines text : List ℕ)
@@ -49,67 +50,72 @@ not_safe_text synchronous found before after not same = ([], IsSafeText.not_safe
 -- each outcome, whether the program is safe, and what the outcomes mean
 pub is_explored_text : (synchronous : Bool) (found : ExploredValue) (left : List (List (List LinedLeftover))) (marks : List (Option Bool))
     (cycle : List ℕ) (runs : ℕ) (lines outcomes between text : List ℕ) → AreWritten found.outcomes found.choices left lines (length found.outcomes) outcomes
-    → (safe : List ℕ) × IsSafeText synchronous found safe × (between ≡ outcomes ++ safe) → text ≡ between ++ meaning_text synchronous found marks cycle runs
+    → (safe : List ℕ) × IsSafeText synchronous found safe × (between ≡ outcomes ++ safe) → text ≡ between ++ meaning_text synchronous found left marks cycle runs
     → IsExploredText synchronous found left marks cycle runs lines text
 is_explored_text synchronous found left marks cycle runs lines outcomes between text each safe whole = record {
   outcomes = outcomes;
   each = each;
   safe = safe.0;
   is_safe = safe.1;
-  whole = whole ∙ ap (λ z. z ++ meaning_text synchronous found marks cycle runs) safe.2;
+  whole = whole ∙ ap (λ z. z ++ meaning_text synchronous found left marks cycle runs) safe.2;
 }
 
 -- behind some lines whether the program is safe, and what the outcomes mean
 pub is_summary : (synchronous : Bool) (found : ExploredValue) (left : List (List (List LinedLeftover))) (marks : List (Option Bool))
     (cycle : List ℕ) (runs : ℕ) (races shorts between text : List ℕ) → shorts ≡ races ++ shorts_text 1 left → (safe : List ℕ) × IsSafeText synchronous found safe × (between ≡ shorts ++ safe)
-    → text ≡ between ++ meaning_text synchronous found marks cycle runs → IsSummary synchronous found left marks cycle runs text
+    → text ≡ between ++ meaning_text synchronous found left marks cycle runs → IsSummary synchronous found left marks cycle runs text
 is_summary synchronous found left marks cycle runs races shorts between text listed safe whole = record {
   races = races;
   safe = safe.0;
   is_safe = safe.1;
-  whole = whole ∙ ap (λ z. z ++ meaning_text synchronous found marks cycle runs) (safe.2 ∙ ap (λ z. z ++ safe.0) listed);
+  whole = whole ∙ ap (λ z. z ++ meaning_text synchronous found left marks cycle runs) (safe.2 ∙ ap (λ z. z ++ safe.0) listed);
 }
 
 -- the outcomes, with their own marks, and behind them whether the program is safe
-pub is_marked : (synchronous : Bool) (lines : List ℕ) (program : ProgramValue) (ranks : ℕ) (found : ExploredValue) (told : Safety)
+pub is_marked : (synchronous : Bool) (mode : SendMode) (lines : List ℕ) (program : ProgramValue) (ranks : ℕ) (found : ExploredValue) (told : Safety)
     (left : List (List (List LinedLeftover))) (marks : List (Option Bool)) (cycle : List ℕ) (runs : ℕ) (before text : List ℕ)
-    → AreLined (mode_of synchronous) program ranks lines found.outcomes found.left left → AreMarked (mode_of synchronous) program ranks found.outcomes found.choices marks
-    → GoesOnAt (mode_of synchronous) program ranks cycle → IsExploredText synchronous found left marks cycle runs lines before → text ≡ before ++ safety_behind synchronous told
+    → mode ≡ mode_of synchronous → AreLined mode program ranks lines found.outcomes found.left left → AreMarked mode program ranks found.outcomes found.choices marks
+    → GoesOnAt mode program ranks cycle → IsExploredText synchronous found left marks cycle runs lines before → text ≡ before ++ safety_behind synchronous told
     → IsMarkedText synchronous lines program ranks found told runs text
-is_marked synchronous lines program ranks found told left marks cycle runs before text lined marked goes_on printed whole = record {
+is_marked synchronous mode lines program ranks found told left marks cycle runs before text by_mode lined marked goes_on printed whole = record {
   marks = marks;
-  marked = marked;
+  marked = subst (λ m. AreMarked m program ranks found.outcomes found.choices marks) by_mode marked;
   cycle = cycle;
-  goes_on = goes_on;
+  goes_on = subst (λ m. GoesOnAt m program ranks cycle) by_mode goes_on;
   before = before;
   left = left;
-  lined = lined;
+  lined = subst (λ m. AreLined m program ranks lines found.outcomes found.left left) by_mode lined;
   printed = printed;
   whole = whole;
 }
 
 -- so they are as an object
-pub is_marked_object : (synchronous : Bool) (lines : List ℕ) (program : ProgramValue) (ranks : ℕ) (found : ExploredValue) (told : Safety)
+pub is_marked_object : (synchronous : Bool) (mode : SendMode) (lines : List ℕ) (program : ProgramValue) (ranks : ℕ) (found : ExploredValue) (told : Safety)
     (left : List (List (List LinedLeftover))) (marks : List (Option Bool)) (text : List ℕ)
-    → AreLined (mode_of synchronous) program ranks lines found.outcomes found.left left → AreMarked (mode_of synchronous) program ranks found.outcomes found.choices marks
+    → mode ≡ mode_of synchronous → AreLined mode program ranks lines found.outcomes found.left left → AreMarked mode program ranks found.outcomes found.choices marks
     → IsSearchObject found left marks lines told text → IsMarkedObject synchronous lines program ranks found told text
-is_marked_object synchronous lines program ranks found told left marks text lined marked written =
-    record { marks = marks; marked = marked; left = left; lined = lined; written = written }
+is_marked_object synchronous mode lines program ranks found told left marks text by_mode lined marked written = record {
+  marks = marks;
+  marked = subst (λ m. AreMarked m program ranks found.outcomes found.choices marks) by_mode marked;
+  left = left;
+  lined = subst (λ m. AreLined m program ranks lines found.outcomes found.left left) by_mode lined;
+  written = written;
+}
 
 -- in short too
-pub is_marked_summary : (synchronous : Bool) (lines : List ℕ) (program : ProgramValue) (ranks : ℕ) (found : ExploredValue) (told : Safety)
+pub is_marked_summary : (synchronous : Bool) (mode : SendMode) (lines : List ℕ) (program : ProgramValue) (ranks : ℕ) (found : ExploredValue) (told : Safety)
     (left : List (List (List LinedLeftover))) (marks : List (Option Bool)) (cycle : List ℕ) (runs : ℕ) (before text : List ℕ)
-    → AreLined (mode_of synchronous) program ranks lines found.outcomes found.left left → AreMarked (mode_of synchronous) program ranks found.outcomes found.choices marks
-    → GoesOnAt (mode_of synchronous) program ranks cycle → IsSummary synchronous found left marks cycle runs before → text ≡ before ++ safety_behind synchronous told
+    → mode ≡ mode_of synchronous → AreLined mode program ranks lines found.outcomes found.left left → AreMarked mode program ranks found.outcomes found.choices marks
+    → GoesOnAt mode program ranks cycle → IsSummary synchronous found left marks cycle runs before → text ≡ before ++ safety_behind synchronous told
     → IsMarkedSummary synchronous lines program ranks found told runs text
-is_marked_summary synchronous lines program ranks found told left marks cycle runs before text lined marked goes_on printed whole = record {
+is_marked_summary synchronous mode lines program ranks found told left marks cycle runs before text by_mode lined marked goes_on printed whole = record {
   marks = marks;
-  marked = marked;
+  marked = subst (λ m. AreMarked m program ranks found.outcomes found.choices marks) by_mode marked;
   cycle = cycle;
-  goes_on = goes_on;
+  goes_on = subst (λ m. GoesOnAt m program ranks cycle) by_mode goes_on;
   before = before;
   left = left;
-  lined = lined;
+  lined = subst (λ m. AreLined m program ranks lines found.outcomes found.left left) by_mode lined;
   printed = printed;
   whole = whole;
 }

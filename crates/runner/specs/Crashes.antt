@@ -1,6 +1,6 @@
 -- What a complete search says of runs, whatever crashed there (failure transparency: Elnozahy and
 -- others 2002, section 2).
-use Rattle.std.specs.Prelude.{◌≡◌, ℕ, List}
+use Rattle.std.specs.Prelude.{◌≡◌, ℕ, List, [], ◌∷◌}
 use Rattle.audit.specs.Outcome.{OutcomeValue}
 use Rattle.audit.specs.FinalRuns.Final.{IsFinal, NoneIsUnfinished, seen_of}
 use Rattle.audit.specs.FinalRuns.Maximal.{RankOutcome}
@@ -17,3 +17,8 @@ AreMasked program n outcomes = (o : OutcomeValue) → IsFinal program n o → Is
 pub record PrintsOnly (program : ProgramValue) (n : ℕ) (outcome : List RankOutcome) : Type 0 where
   pub reports : (o : OutcomeValue) → IsFinal program n o → PrintsPartOf outcome o.lines
   pub whole : (o : OutcomeValue) → IsFinal program n o → NoneIsUnfinished o.ends → seen_of o ≡ outcome
+
+-- Crashes add none to these outcomes of a program; so where there is one, it is all that a run prints.
+pub record CrashesAddNone (program : ProgramValue) (n : ℕ) (outcomes : List (List RankOutcome)) : Type 0 where
+  pub masks : AreMasked program n outcomes
+  pub only : (outcome : List RankOutcome) → outcomes ≡ outcome ∷ [] → PrintsOnly program n outcome

@@ -15,8 +15,8 @@ use Rattle.runner.specs.Apart.{AreLinesApart}
 use Rattle.runner.specs.declared.commands.apart.Apart.{Apart}
 use Rattle.runner.specs.declared.commands.determinism.Determinism.{Determinism}
 use Rattle.runner.specs.declared.commands.determinism.Determinism.TheVariants as known
-use Rattle.synchronous.specs.declared.telling.Telling.{Telling}
-use Rattle.synchronous.specs.declared.telling.Telling.TheVariants as telling
+use Rattle.telling.specs.declared.program.Telling.{Telling}
+use Rattle.telling.specs.declared.program.Telling.TheVariants as telling
 use Rattle.explore.specs.declared.send_mode.SendMode.TheVariants.{Buffered}
 
 -- what each rank printed

@@ -13,8 +13,11 @@ pub mod Partings
 pub mod LeftText
 pub mod SentLines
 pub mod Modes
-pub mod Meanings
+pub mod Enumerations
 pub mod Waits
+pub mod Stalls
+pub mod Unhalted
+pub mod Meanings
 pub mod Safety
 pub mod Apart
 pub mod Determinism

@@ -2,70 +2,10 @@
 -- `explore`").
 use Rattle.std.specs.Prelude.{◌==◌, ◌&&◌, ℕ, ◌+◌, Bool, true, false, if◌then◌else◌, length, List, [], ◌∷◌, ◌++◌, Option, Some, None, codes}
 use Rattle.std.specs.Fmt.{decimal}
-use Rattle.audit.specs.declared.outcome.End.{End}
-use Rattle.audit.specs.declared.outcome.End.TheVariants as end
 use Rattle.explore.specs.Explored.{ExploredValue}
-use Rattle.audit.specs.FinalRuns.Maximal.{RankOutcome}
-use Rattle.runner.specs.declared.explored.meaning.NoHalt.{NoHalt}
-use Rattle.runner.specs.declared.explored.meaning.NoHalt.TheVariants as ending
-
--- the rank ended so
-abbrev pub is_of : NoHalt → End → Bool
-is_of ending.Stalls end.Stalled = true
-is_of ending.Stalls (end.Faulted fault) = false
-is_of ending.Stalls end.Halted = false
-is_of ending.Stalls end.Unfinished = false
-is_of ending.Faults end.Stalled = false
-is_of ending.Faults (end.Faulted fault) = true
-is_of ending.Faults end.Halted = false
-is_of ending.Faults end.Unfinished = false
-
--- the numbers of the ranks that ended so, from this rank on
-abbrev pub ranks_of : NoHalt → ℕ → List RankOutcome → List ℕ
-ranks_of ending rank [] = []
-ranks_of ending rank (seen ∷ others) =
-    if is_of ending seen.end then rank ∷ ranks_of ending (rank + 1) others else ranks_of ending (rank + 1) others
-
--- what stands between a number and these many more
-abbrev pub between : ℕ → List ℕ
-between left = if left == 0 then [] else (if left == 1 then codes " and " else codes ", ")
-
--- an enumeration, as `0, 1 and 3`
-abbrev pub enumeration : List ℕ → List ℕ
-enumeration [] = []
-enumeration (number ∷ numbers) = decimal number ++ between (length numbers) ++ enumeration numbers
-
--- these ranks, as `rank 1` or `ranks 0 and 1`
-abbrev pub named_ranks : List ℕ → List ℕ
-named_ranks ranks = (if length ranks == 1 then codes "rank " else codes "ranks ") ++ enumeration ranks
-
--- these ranks, and the end of the line
-abbrev pub ranks_line : List ℕ → List ℕ
-ranks_line ranks = named_ranks ranks ++ codes "\n"
-
--- the line that says which ranks of the outcome of this number stall, if some do
-abbrev pub stalls_text : ℕ → List ℕ → List ℕ
-stalls_text number ranks = if length ranks == 0 then [] else
-    (codes "# outcome " ++ decimal number ++ codes " stalls: " ++ named_ranks ranks
-    ++ (if length ranks == 1 then codes " waits for a message that doesn't come\n" else codes " wait for messages that don't come\n"))
-
--- that the outcome of this number has a fault
-unfoldable pub fault_words : ℕ → List ℕ
-fault_words number = codes "# outcome " ++ decimal number ++ codes " has a fault: "
-
--- the line that says which ranks of the outcome of this number have a fault
-abbrev pub fault_line : ℕ → List ℕ → List ℕ
-fault_line number ranks = fault_words number ++ ranks_line ranks
-
--- this line, if some have one
-abbrev pub faults_text : ℕ → List ℕ → List ℕ
-faults_text number ranks = if length ranks == 0 then [] else fault_line number ranks
-
--- which ranks of the outcomes from this number on don't halt
-abbrev pub unhalted_text : ℕ → List (List RankOutcome) → List ℕ
-unhalted_text number [] = []
-unhalted_text number (outcome ∷ outcomes) = stalls_text number (ranks_of ending.Stalls 0 outcome)
-    ++ faults_text number (ranks_of ending.Faults 0 outcome) ++ unhalted_text (number + 1) outcomes
+use Rattle.runner.specs.Enumerations.{named_lines}
+use Rattle.runner.specs.Unhalted.{unhalted_text}
+use Rattle.runner.specs.declared.explored.lined.LinedLeftover.{LinedLeftover}
 
 -- That the run that was found with the outcome of this number is one that no execution gives. Nothing
 -- is said where it isn't, nor where the run wasn't found again.
@@ -106,10 +46,6 @@ abbrev pub runs_text : ExploredValue → ℕ → List ℕ
 runs_text found runs =
     if found.runs == runs then codes "# not all was looked at: allow more runs (--runs)\n" else []
 
--- these lines, as `line 3` or `lines 3 and 4`
-abbrev pub named_lines : List ℕ → List ℕ
-named_lines lines = (if length lines == 1 then codes "line " else codes "lines ") ++ enumeration lines
-
 -- that a state came back
 unfoldable pub cycle_words : List ℕ
 cycle_words = codes "# a state came back: the ranks may go on for ever, at "
@@ -145,8 +81,9 @@ abbrev pub count_text : ExploredValue → List ℕ
 count_text found = codes "outcomes " ++ decimal (length found.outcomes) ++ codes ", runs " ++ decimal found.runs
     ++ whole_text found ++ codes "\n"
 
--- what the outcomes of a search, of synchronous runs or of others, mean, with these marks, that were found in no more than so many runs, while a state came back at these lines, and
--- the last line
-abbrev pub meaning_text : Bool → ExploredValue → List (Option Bool) → List ℕ → ℕ → List ℕ
-meaning_text synchronous found marks cycle runs =
-    only_text synchronous found ++ unhalted_text 1 found.outcomes ++ marks_text 1 marks ++ states_text found ++ limits_text found cycle runs ++ count_text found
+-- What the outcomes of a search mean, of synchronous runs or of others, with what was never received and
+-- with these marks, that were found in no more than so many runs, while a state came back at these
+-- lines; and the last line.
+abbrev pub meaning_text : Bool → ExploredValue → List (List (List LinedLeftover)) → List (Option Bool) → List ℕ → ℕ → List ℕ
+meaning_text synchronous found left marks cycle runs =
+    only_text synchronous found ++ unhalted_text synchronous left 0 found.outcomes ++ marks_text 1 marks ++ states_text found ++ limits_text found cycle runs ++ count_text found

@@ -78,7 +78,7 @@ pub record IsExploredText (synchronous : Bool) (found : ExploredValue) (left : L
   pub each : AreWritten found.outcomes found.choices left lines (length found.outcomes) outcomes
   pub safe : List ℕ
   pub is_safe : IsSafeText synchronous found safe
-  pub whole : text ≡ outcomes ++ safe ++ meaning_text synchronous found marks cycle runs
+  pub whole : text ≡ outcomes ++ safe ++ meaning_text synchronous found left marks cycle runs
 
 -- what is printed of it in short: some lines, and behind them what was never received, whether the
 -- program is safe, and what the outcomes mean
@@ -87,7 +87,7 @@ pub record IsSummary (synchronous : Bool) (found : ExploredValue) (left : List (
   pub races : List ℕ
   pub safe : List ℕ
   pub is_safe : IsSafeText synchronous found safe
-  pub whole : text ≡ races ++ shorts_text 1 left ++ safe ++ meaning_text synchronous found marks cycle runs
+  pub whole : text ≡ races ++ shorts_text 1 left ++ safe ++ meaning_text synchronous found left marks cycle runs
 
 -- If a state came back at some lines, the program may go on for ever.
 abbrev pub GoesOnAt : SendMode → ProgramValue → ℕ → List ℕ → Type 0

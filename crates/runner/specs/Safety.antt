@@ -11,7 +11,7 @@ use Rattle.rank_language.specs.Block.{Line, simple_line, if_line, else_line, end
 use Rattle.rank_language.specs.Placed.{Simple, declare, declare_array, assign, assign_item, send, receive, probe, try_probe, print, collect}
 use Rattle.rank_language.specs.Program.{ProgramValue}
 use Rattle.run_events.specs.Halting.{AllHalt}
-use Rattle.runner.specs.Meanings.{named_lines, named_ranks}
+use Rattle.runner.specs.Enumerations.{named_lines, named_ranks}
 use Rattle.runner.specs.Waits.{IsEmpty, WaitInARun, waits_somewhere}
 use Rattle.runner.specs.declared.explored.safety.Safety.{Safety}
 use Rattle.runner.specs.declared.explored.safety.Safety.TheVariants as safety

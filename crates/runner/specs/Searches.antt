@@ -1,6 +1,6 @@
 -- What is answered to a search for all outcomes of a program (docs/FORMATS.md, "Standard output of
 -- `explore`").
-use Rattle.std.specs.Prelude.{◌≡◌, ◌≤◌, ◌↔◌, ◌⊎◌, ℕ, true, false, IsTrue, List, [], ◌∷◌, ◌++◌}
+use Rattle.std.specs.Prelude.{◌≡◌, ◌≤◌, ◌↔◌, ◌⊎◌, ℕ, true, false, IsTrue, List, [], ◌++◌}
 use Rattle.command_line.specs.declared.exploring.ExploreForm.TheVariants as form
 use Rattle.command_line.specs.declared.exploring.ExploreJob.{ExploreJob}
 use Rattle.explore.specs.Counting.{GoesBeyond}
@@ -14,7 +14,7 @@ use Rattle.explore.specs.Small.{IsSmall}
 use Rattle.audit.specs.FinalRuns.Maximal.{RankOutcome}
 use Rattle.explore.specs.Sending.{IsPossibleUnder}
 use Rattle.rank_language.specs.Program.{ProgramValue}
-use Rattle.runner.specs.Crashes.{AreMasked, PrintsOnly}
+use Rattle.runner.specs.Crashes.{CrashesAddNone}
 use Rattle.runner.specs.Determinism.{IsKnown, known_text, needs_telling}
 use Rattle.runner.specs.Events.{PlaysOutcome}
 use Rattle.run_events.specs.Halting.{AllHalt}
@@ -28,21 +28,22 @@ use Rattle.runner.specs.declared.commands.determinism.Determinism.{Determinism}
 use Rattle.runner.specs.declared.commands.determinism.Determinism.TheVariants as known
 use Rattle.runner.specs.declared.explored.safety.Safety.{Safety}
 use Rattle.runner.specs.declared.explored.safety.Safety.TheVariants as safety
-use Rattle.synchronous.specs.Telling.{IsTelling, IsUntellable}
-use Rattle.synchronous.specs.declared.telling.Telling.{Telling}
-use Rattle.synchronous.specs.declared.telling.Telling.TheVariants as telling
+use Rattle.telling.specs.Telling.{IsTelling, IsUntellable}
+use Rattle.telling.specs.declared.program.Telling.{Telling}
+use Rattle.telling.specs.declared.program.Telling.TheVariants as telling
 use Rattle.explore.specs.declared.send_mode.SendMode.{SendMode}
 use Rattle.explore.specs.declared.send_mode.SendMode.TheVariants.{Buffered, Synchronous}
 
--- What a search found of the runs by a mode of sends: the program may have each outcome, and what is listed of it was never received
--- in some run that has it; if the search is complete, in no such run something else was left. If the search is complete, it has no
--- other, and however its ranks go on they come to an end that was found. If sends were buffered too, crashes add none to those
--- of runs; so where there is one outcome, it is all that a run prints. The search of a small
--- program is complete. If it is closed, the program has no other outcome either, but has runs of any
--- length. One that is neither looked at as many runs as the job allows, or a rank came to the limit of
--- steps, and then some rank goes beyond it. No outcome stands there twice, and no more
--- runs were looked at than the job allows.
-pub record IsFoundBy (program : ProgramValue) (mode : SendMode) (job : ExploreJob) (found : ExploredValue) : Type 0 where
+-- What a search found, in so many runs at most, of the program's runs by a mode of sends: the program
+-- may have each outcome, and what is listed of it was never received in some run that has it; if the
+-- search is complete, in no such run something else was left. If the search is complete, the program
+-- has no other outcome, and however its ranks go on by this mode they come to an end that was found.
+-- Of crashes it speaks only where sends are buffered, as they are in each run with crashes.
+-- The search of a small program is complete. If it is closed, the program has no other outcome
+-- either, but has runs of any length. One that is neither looked at all these runs, or a rank came to
+-- the job's limit of steps, and then some rank goes beyond it. No outcome stands there twice, and no
+-- more runs were looked at.
+pub record IsFoundBy (program : ProgramValue) (mode : SendMode) (job : ExploreJob) (runs : ℕ) (found : ExploredValue) : Type 0 where
   pub possible : (outcome : List RankOutcome) → IsAmong found.outcomes outcome → IsPossibleUnder mode program job.ranks outcome
   pub complete : found.complete ≡ true → AreAll mode program job.ranks found.outcomes
   pub closed : found.closed ≡ true → AreAll mode program job.ranks found.outcomes
@@ -50,13 +51,12 @@ pub record IsFoundBy (program : ProgramValue) (mode : SendMode) (job : ExploreJo
   pub all_left : found.closed ≡ true → AreLeftovers mode program job.ranks true found.outcomes found.left
   pub endless : found.closed ≡ true → MayGoOnForEver mode program job.ranks
   pub ends : found.complete ≡ true → AlwaysEndsIn mode (start_of program job.ranks) job.ranks (IsAmong found.outcomes) []
-  pub masks : mode ≡ Buffered → found.complete ≡ true → AreMasked program job.ranks found.outcomes
-  pub only : mode ≡ Buffered → found.complete ≡ true → (outcome : List RankOutcome) → found.outcomes ≡ outcome ∷ [] → PrintsOnly program job.ranks outcome
-  pub small : IsSmall mode program job.ranks job.runs job.steps → found.complete ≡ true
-  pub stopped : found.complete ≡ false → found.closed ≡ false → (found.runs ≡ job.runs) ⊎ IsTrue found.out_of_steps
+  pub crashes : mode ≡ Buffered → found.complete ≡ true → CrashesAddNone program job.ranks found.outcomes
+  pub small : IsSmall mode program job.ranks runs job.steps → found.complete ≡ true
+  pub stopped : found.complete ≡ false → found.closed ≡ false → (found.runs ≡ runs) ⊎ IsTrue found.out_of_steps
   pub beyond : found.out_of_steps ≡ true → GoesBeyond mode program job.ranks job.steps
   pub distinct : AreDistinct found.outcomes
-  pub few_runs : found.runs ≤ job.runs
+  pub few_runs : found.runs ≤ runs
 
 -- the exit status behind a search: 0 if and only if it is complete and each rank halts in each
 -- outcome, and else 1
@@ -68,7 +68,7 @@ pub record HasSearchStatus (found : ExploredValue) (status : ℕ) : Type 0 where
 -- job: the verdict of what was found of them.
 pub record IsSecond (lines : List ℕ) (program : ProgramValue) (job : ExploreJob) (told : Safety) : Type 0 where
   pub found : ExploredValue
-  pub searched : IsFoundBy program Synchronous job found
+  pub searched : IsFoundBy program Synchronous job job.runs found
   pub verdict : IsVerdict lines program job.ranks found told
 
 -- Whether the program is safe of which this was found. If that was found of its synchronous runs, this
@@ -78,13 +78,28 @@ pub record IsSafetyOf (lines : List ℕ) (program : ProgramValue) (job : Explore
   pub untold : job.synchronous ≡ false → needs_second job program found ≡ false → told ≡ safety.Untold
   pub second : job.synchronous ≡ false → needs_second job program found ≡ true → IsSecond lines program job told
 
--- What is said after a search of a telling program of the text, within the limits of the job: that
--- there is none, or what is known by what was found of it.
+-- What is known of a telling program, whose statements stand on these lines, by what a search in so
+-- many runs at most found of it.
+pub record IsKnownIn (runs : ℕ) (program : ProgramValue) (lines : List ℕ) (job : ExploreJob) (told : Determinism) : Type 0 where
+  pub found : ExploredValue
+  pub searched : IsFoundBy program Buffered job runs found
+  pub told_of : IsKnown program lines job.ranks found told
+
+-- So it is by a search within the limits of the job. It came to a limit only if it was allowed as many
+-- runs as the job allows.
+pub record IsKnownWithin (program : ProgramValue) (lines : List ℕ) (job : ExploreJob) (told : Determinism) : Type 0 where
+  pub runs : ℕ
+  pub few : runs ≤ job.runs
+  pub searched : IsKnownIn runs program lines job told
+  pub whole : told ≡ known.Stopped → runs ≡ job.runs
+
+-- What is said after searches of a telling program of the text, within the limits of the job: that
+-- there is none, or what is known of it.
 pub data IsToldOf (what : Telling) (text : List ℕ) (job : ExploreJob) : Determinism → Type 0 where
   past : IsUntellable what text → IsToldOf what text job known.PastLimits
   faulty : {line : ℕ} {kind : FaultKind} → IsFaultOf text line kind → IsToldOf what text job known.Untold
-  searched : {told : Determinism} (program : ProgramValue) (lines : List ℕ) (found : ExploredValue) → IsTelling what text program lines
-      → IsFoundBy program Buffered job found → IsKnown program lines job.ranks found told → IsToldOf what text job told
+  searched : {told : Determinism} (program : ProgramValue) (lines : List ℕ) → IsTelling what text program lines
+      → IsKnownWithin program lines job told → IsToldOf what text job told
 
 -- these lines say it of sends, and of receptions
 pub record AreToldOf (text : List ℕ) (job : ExploreJob) (lines : List ℕ) : Type 0 where
@@ -114,7 +129,7 @@ pub record IsPrinted (lines : List ℕ) (program : ProgramValue) (job : ExploreJ
 -- status.
 pub record IsSearchAnswer (text lines : List ℕ) (program : ProgramValue) (job : ExploreJob) (out : List ℕ) (status : ℕ) : Type 0 where
   pub found : ExploredValue
-  pub searched : IsFoundBy program (mode_of job.synchronous) job found
+  pub searched : IsFoundBy program (mode_of job.synchronous) job job.runs found
   pub told : Safety
   pub safety : IsSafetyOf lines program job found told
   pub before : List ℕ

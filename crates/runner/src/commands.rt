@@ -19,6 +19,7 @@ ghost use Rattle.command_line.specs.Words.{texts};
 ghost use Rattle.runner.specs.Answers.{IsJobAnswer};
 ghost use Rattle.runner.specs.Commands.{IsCommandAnswer};
 
+mod answering;
 mod apart;
 mod c;
 mod check;
@@ -38,16 +39,15 @@ mod scheduling;
 mod sending;
 mod sent_lines;
 mod soaking;
-mod telling;
 mod trace;
 mod unreceived;
 mod waiting;
 mod world;
 mod world_objects;
 
+use crate::commands::answering::{tell, tell_no_job, tell_no_memory};
 use crate::commands::job::work;
 pub use crate::commands::refusal::Refusal;
-use crate::commands::telling::{tell, tell_no_job, tell_no_memory};
 use crate::files::Files;
 use command_line::{Job, job_of};
 use explore::{Unwatched, Watch};

@@ -6,6 +6,7 @@ ghost use Rattle.run_events.specs.Halting.{AllHalt, Halts};
 ghost use Rattle.runner.specs.OutcomesText.{AreWritten, IsExploredText, IsSafeText};
 ghost use Rattle.runner.specs.OutcomesText.{endings_text, lines_text, one_text, outcome_text, values_text};
 
+mod enumerating;
 mod json;
 mod leftover;
 mod lined;
@@ -13,12 +14,14 @@ mod meaning;
 mod parting;
 mod racing;
 mod safety;
+mod stalling;
+mod unhalted;
 
 pub use crate::explored::json::explored_json;
 pub use crate::explored::leftover::print_left;
 use crate::explored::leftover::print_listed;
 use crate::explored::lined::left_at;
-pub use crate::explored::lined::{LinedLeftover, LinedLeftovers, LinedOutcome};
+pub use crate::explored::lined::{LinedLeftover, LinedLeftovers, LinedOutcome, is_sent_by, is_tag};
 use crate::explored::meaning::print_meaning;
 use crate::explored::parting::{Parted, part, print_choices};
 pub use crate::explored::racing::print_summary;
@@ -51,7 +54,16 @@ pub fn print_explored(
     let mut text = String::new(alloc);
     print_outcomes(alloc, &mut text, found, left, lines)?;
     print_safe(&mut text, found, synchronous)?;
-    print_meaning(&mut text, found, marks, cycle, limits.runs, synchronous)?;
+    print_meaning(
+        alloc,
+        &mut text,
+        found,
+        left,
+        marks,
+        cycle,
+        limits.runs,
+        synchronous,
+    )?;
     Ok(text)
 }
 

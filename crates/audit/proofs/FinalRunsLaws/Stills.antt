@@ -1,17 +1,14 @@
 -- A rank that stands still makes no act, and its outcome is what it printed and asked for last.
-use Rattle.std.proofs.Common.{◌≡◌, ℕ, ◌<◌, List, [], ◌∷◌, ◌++◌, Some, length, slice_get, ◌+◌, ◌⊎◌, inl, inr, sym, ap, subst, ◌∙◌, arith}
-use Rattle.std.specs.Prelude.{map}
+use Rattle.std.proofs.Common.{◌≡◌, ℕ, ◌<◌, [], ◌∷◌, ◌++◌, Some, length, slice_get, ◌+◌, ◌⊎◌, inl, inr, sym, ap, subst, ◌∙◌, arith}
 use Rattle.std.proofs.lemmas.Bool.{cases_eq}
-use Rattle.std.proofs.lemmas.Option.{slice_get_within}
 use Rattle.matching.specs.declared.selector.Selector.{Selector}
 use Rattle.rank_machine.specs.declared.want.Want.{Want}
 use Rattle.rank_machine.specs.declared.want.Want.TheVariants as want
 use Rattle.rank_machine.specs.Acts.{Act}
 use Rattle.rank_machine.specs.Machine.{MachineValue, machine_want}
-use Rattle.crash_free.specs.Runs.{history, prints_from, IsEligible}
+use Rattle.crash_free.specs.Runs.{history, IsEligible}
 use Rattle.crash_free.specs.Sim.{SimValue, Simulates, start_of, inbound_of}
 use Rattle.crash_free.specs.Wanted.{Wants, WantsAt}
-use Rattle.crash_free.proofs.Lists.{push_cases}
 use Rattle.audit.specs.FinalRuns.Maximal.{MayFollow, RankOutcome, IsRankOutcome, end_of}
 use Rattle.audit.specs.FinalRuns.Stills.{HasNothing, StandsStill, EndsAt}
 use Rattle.audit.proofs.Reaching.{some_there}

@@ -1,5 +1,5 @@
--- What a call on a rank leaves of its seat: the machine keeps its program, and what is stable stays, but for the shelf
--- where an image is taken.
+-- What a call on a rank leaves of its seat: the machine keeps its program, and what is stable stays,
+-- except for the shelf where an image is taken.
 use Rattle.std.proofs.Common.{◌≡◌, ◌≢◌, ℕ, Bool, true, false, ◌==◌, length, List, [], ◌∷◌, Option, Some, None, Result, Ok, Err}
 use Rattle.std.proofs.Common.{refl, sym, ap, subst, ◌∙◌, ◌⊎◌, inl, inr}
 use Rattle.checkpoint.specs.Image.{ImageValue}
@@ -11,7 +11,7 @@ use Rattle.matching.specs.PacketValue as packet
 use Rattle.event_logger.specs.Sequential.Event.{EventValue}
 use Rattle.event_logger.specs.declared.sequential.kind.Kind.{Kind}
 use Rattle.event_logger.specs.declared.sequential.kind.Kind.TheVariants as kind
-use Rattle.std.specs.Prelude.{OnOk, OnErr, MatchBool, option_and_then, if◌then◌else◌}
+use Rattle.std.specs.Prelude.{OnOk, OnErr, MatchBool, if◌then◌else◌}
 use Rattle.rank_language.specs.Block.{lines_at}
 use Rattle.rank_language.specs.Program.{ProgramValue, block_of}
 use Rattle.rank_machine.specs.declared.want.Want.{Want}
@@ -33,7 +33,7 @@ use Rattle.rank_node.specs.declared.frame.Frame.{Frame}
 use Rattle.rank_node.specs.declared.frame.Frame.TheVariants as frame
 use Rattle.rank_node.specs.Phases.{arrived_in, settled_in, stable_in}
 use Rattle.bare_world.specs.Stocked.{IsSeatStocked}
-use Rattle.bare_world.specs.Seat.{live_of, seat_of, shelf_of, HasLeft, IsKept, IsOf, IsOwn, IsSeated, IsStanding, Phase}
+use Rattle.bare_world.specs.Seat.{seat_of, shelf_of, HasLeft, IsKept, IsOf, IsOwn, IsSeated, IsStanding, Phase}
 use Rattle.bare_world.specs.Seats.{in_replay, IsRestarted}
 use Rattle.bare_world.proofs.Alike.ImageIsOfProgram.{read_program}
 use Rattle.bare_world.proofs.Calls.SettlesAtTheEnd.{settled_left, settled_standing}

@@ -105,7 +105,7 @@ has_milder start w w' s r u f lu has v live =
 
 -- ---- what is outgoing is put
 
--- what is put leaves its rank as it was, but for what is due and the cursor
+-- what is put leaves its rank as it was, except for what is due and the cursor
 passed_keeps : (v : Rank) (d : ℕ) (o : Option Frame) → ((sent_off v d o).pending ≡ v.pending) × ((sent_off v d o).clock ≡ v.clock)
     × ((sent_off v d o).inbox ≡ v.inbox)
 passed_keeps v d None = (refl, refl, refl)

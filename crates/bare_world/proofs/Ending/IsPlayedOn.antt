@@ -101,7 +101,7 @@ pub played_none : (w : WorldValue) (events : List WorldEvent) (event : WorldEven
 played_none w events event answer w' events' l f e =
     played_same (λ r. step_of r event) w events w' events' (leaves w event answer w' l f) e
 
--- what is left of a world for want of memory
+-- what is left of a world where memory ran out
 left_as : (w : WorldValue) (event : WorldEvent) (w' : WorldValue) → Unchanged w event w' → (w' ≡ w) ⊎ ((r : ℕ) × Fetched w r w')
 left_as w (Step r) w' u = inl u
 left_as w (Put s d) w' u = inl u

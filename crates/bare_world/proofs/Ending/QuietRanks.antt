@@ -6,7 +6,7 @@ use Rattle.rank_node.specs.declared.fault.NodeFault.{NodeFault}
 use Rattle.rank_node.specs.Waiting.{is_settled}
 use Rattle.rank_node.specs.Steps.{turn_of, refusal_of}
 use Rattle.rank_node.proofs.Again.{settled_nil}
-use Rattle.matching.specs.Inbox.{Mailbox, accepted_from}
+use Rattle.matching.specs.Inbox.{accepted_from}
 use Rattle.crash_free.specs.Runs.{Passed, history, sent}
 use Rattle.bare_world.specs.World.{Rank, Live, WorldValue, size}
 use Rattle.bare_world.specs.Seats.{at_work, IsNotAtWork}

@@ -1,17 +1,17 @@
 -- Rounds of a world that is played: in each of them every rank has its turn, and a round that had events is one round more.
-use Rattle.std.proofs.Common.{◌≡◌, ℕ, zero, suc, ◌+◌, ◌<◌, ◌≤◌, ◌⊎◌, inl, inr, Bool, true, false, List, [], ◌∷◌, ◌++◌, length}
+use Rattle.std.proofs.Common.{◌≡◌, ℕ, suc, ◌+◌, ◌<◌, ◌≤◌, ◌⊎◌, inl, inr, Bool, true, false, List, [], ◌∷◌, ◌++◌, length}
 use Rattle.std.proofs.Common.{refl, sym, ap, subst, ◌∙◌, arith, append_assoc}
 use Rattle.std.specs.Prelude.{MatchBool}
 use Rattle.std.proofs.lemmas.Bool.{cases_eq}
 use Rattle.std.proofs.lemmas.List.{length-append, append-nil, append_cancel_left}
 use Rattle.bare_world.specs.declared.event.WorldEvent.{WorldEvent}
 use Rattle.bare_world.specs.declared.event.WorldEvent.TheVariants.{Step}
-use Rattle.bare_world.specs.World.{WorldValue, size}
+use Rattle.bare_world.specs.World.{WorldValue}
 use Rattle.bare_world.specs.ToTheEnd.{IsNoCrash, Leads}
 use Rattle.bare_world.specs.Follows.{Follows}
 use Rattle.bare_world.specs.Onward.{IsWorld}
 use Rattle.bare_world.specs.declared.reply.Reply.{Reply}
-use Rattle.bare_world.specs.Finished.{step_of, steps_in, IsInVain, HasTurn, IsRound, AreRounds, IsStill, Played, HadTurn, HadTurns, HadRound, HadRounds}
+use Rattle.bare_world.specs.Finished.{steps_in, IsInVain, HasTurn, AreRounds, IsStill, Played, HadTurn, HadTurns, HadRound, HadRounds}
 use Rattle.bare_world.specs.Finished.{leaves_all, HasLed, IsTaken, for_all, no_steps}
 use Rattle.bare_world.proofs.HeadlineKept.{happens_can}
 use Rattle.bare_world.proofs.Alike.OneEventMore.{happened}

@@ -16,10 +16,10 @@ use Rattle.rank_machine.specs.Acts.{Act, Message, sends, takes, hits, misses, pr
 use Rattle.rank_machine.specs.Machine.{state_of, machine_want}
 use Rattle.rank_machine.specs.declared.want.Want.TheVariants as want
 use Rattle.rank_machine.proofs.Determined.{still, same_stop, same_runs}
-use Rattle.crash_free.specs.Runs.{Passed, History, at_place, history, sent, taken, MayMake, continue}
+use Rattle.crash_free.specs.Runs.{Passed, History, at_place, history, sent, taken, continue}
 use Rattle.crash_free.proofs.Lists.{at_place-append}
 use Rattle.bare_world.specs.World.{Rank}
-use Rattle.bare_world.specs.Misses.{Shows, IsShown, MissesNoneShown}
+use Rattle.bare_world.specs.Misses.{Shows, MissesNoneShown}
 use Rattle.bare_world.specs.Stands.{InboxStands, StandsIn}
 use Rattle.bare_world.proofs.Rows.{IsEffect}
 use Rattle.bare_world.proofs.Runs.ActFitsWant.{wanted, stopped}

@@ -22,7 +22,8 @@ use Rattle.bare_world.specs.Misses.{MissesNoneShown}
 use Rattle.bare_world.specs.Stands.{start_at, RankStands, StandsAt, Covers}
 use Rattle.bare_world.proofs.Standing.LiveRanks.{ImageStands-later, RankStands-extended}
 
--- what an event keeps but for the count of events: what goes with the run, and what senders may drop
+-- what an event keeps, except for the count of events: what goes with the run, and what senders
+-- may drop
 pub record Goes (w : WorldValue) : Type 0 where
   pub run : StandsAt (size w) w
   pub covers : Covers w

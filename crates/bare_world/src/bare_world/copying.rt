@@ -6,7 +6,7 @@ use crate::bare_world::BareWorld;
 use std::alloc::AllocError;
 
 impl<'p> BareWorld<'p> {
-    /// The same world but for the shelves themselves, whose images are the
+    /// The same world except for the shelves themselves, whose images are the
     /// same. An `Err` means out of memory.
     #[tactic(auto, using(crate::proofs::Alike::ListLeadsToo::alike_length))]
     pub fn copy(&self) -> Result<BareWorld<'p>, AllocError>

@@ -61,8 +61,9 @@ impl<'p> Seat<'p> {
     }
 }
 
-// A rank that is down starts again at its image, or at the beginning of the program, and this is how many events of its row
-// are left to replay. Whichever rank of the program it is, its image cuts no event of the row.
+// A rank that is down starts again at its image, or at the beginning of the program, and this is
+// how many events of its row are left to replay. Whichever rank of the program it is, its image cuts
+// no event of the row.
 #[tactic(auto, using(crate::proofs::Calls::SettlesAtTheEnd::settled_left))]
 fn restarted<'p>(
     down: Down<MemoryShelf, ()>,

@@ -8,7 +8,7 @@ ghost use Rattle.crash_free.specs.Standing.{and_all, and_packet};
 use crate::leftover::{Leftover, add_left};
 use crate::mail::index::Index;
 use crate::mail::walk::{first_from, moved};
-use crate::standing::{Standing, write_packets};
+use crate::standing::{RowSink, write_packets};
 use limits::Heap;
 use matching::{Context, Packet, Selector};
 use std::alloc::AllocError;
@@ -99,10 +99,18 @@ impl Slots {
     }
 
     /// Writes the messages that aren't taken.
-    pub fn write(&self, out: &mut Standing) -> Result<(), AllocError>
-        ensures { OnOk result (out.new ≡ and_all and_packet out.old (packets_in self.now)) }
+    pub fn write<O: RowSink>(&self, out: &mut O) -> Result<(), O::Stop>
+        ensures { OnOk result (O.rows out.new ≡ and_all and_packet (O.rows out.old) (packets_in self.now)) }
     {
-        write_packets(out, &self.slots)
+        write_packets(out, self.from_front())
+    }
+
+    // Those from the front on, which have all messages that aren't taken.
+    #[tactic(auto, using(crate::proofs::Walking::packets_behind))]
+    fn from_front(&self) -> &[Option<Packet>]
+        ensures { packets_in result.now ≡ packets_in self.now }
+    {
+        &self.slots[self.front..]
     }
 
     /// Adds the messages that aren't taken, which the source sent to the rank.

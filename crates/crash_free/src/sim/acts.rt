@@ -101,7 +101,9 @@ impl Sim<'_> {
         if self.passed.reserve(1).is_err() {
             return Err(NotAllowed::Memory);
         }
-        let packet = self.mail.take(source, rank, place);
+        let Ok(packet) = self.mail.take(source, rank, place) else {
+            return Err(NotAllowed::Memory);
+        };
         let machine = &mut self.machines[usize::from(rank)];
         machine.give(packet);
         self.passed

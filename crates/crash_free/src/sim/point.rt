@@ -7,14 +7,15 @@ use crate::act::Passed;
 use crate::lines::PrintedValues;
 use crate::mail::Mail;
 use crate::sim::Sim;
-use crate::sim::copying::copied;
+use crate::sim::copying::{copied, different, replace};
 use limits::Heap;
 use rank_machine::Machine;
 use std::alloc::AllocError;
 use std::marker::Model;
 
 /// Where all ranks of a simulation stood after so many acts of its run. It has
-/// no copy of these acts, so that it takes no more memory behind a long run.
+/// no copy of these acts, so that it takes no more memory behind a long run, and it shares messages
+/// and printed values with the simulation.
 #[derive(Drop)]
 pub struct Point<'p> {
     machines: Vec<Machine<'p>, Heap>,
@@ -54,7 +55,7 @@ impl<'p> Sim<'p> {
         Ok(Point {
             machines: copied(self.alloc, &self.machines)?,
             mail: self.mail.copy(self.alloc)?,
-            lines: self.lines.copy(self.alloc)?,
+            lines: self.lines.copy()?,
             made: self.passed.len(),
         })
     }
@@ -68,11 +69,11 @@ impl<'p> Sim<'p> {
         ensures err { OnErr result (self.new ≡ self.old) }
         ensures stands { Simulates self.new }
     {
-        let machines = copied(self.alloc, &point.machines)?;
+        let machines = different(self.alloc, &self.machines, &point.machines)?;
         let mail = point.mail.copy(self.alloc)?;
-        let lines = point.lines.copy(self.alloc)?;
+        let lines = point.lines.copy()?;
         let since = self.passed.split_off(point.made)?;
-        self.machines = machines;
+        replace(&mut self.machines, machines);
         self.mail = mail;
         self.lines = lines;
         Ok(since)

@@ -1,7 +1,6 @@
 -- A no of `confirm` leaves no run.
-use Rattle.std.proofs.Common.{◌≡◌, ◌≢◌, ap, ℕ, List, Some, slice_get}
+use Rattle.std.proofs.Common.{◌≡◌, ◌≢◌, ap, ℕ}
 use Rattle.rank_language.specs.Program.{ProgramValue}
-use Rattle.audit.specs.declared.fault.AuditFault.{AuditFault}
 use Rattle.audit.specs.declared.fault.AuditFault.TheVariants as audit
 use Rattle.audit.specs.Outcome.{OutcomeValue}
 use Rattle.audit.specs.declared.final_runs.fault.FinalFault.{FinalFault}

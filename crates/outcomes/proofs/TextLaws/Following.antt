@@ -1,6 +1,6 @@
 -- What the lines so far have of each rank, after one line more.
 use Rattle.std.proofs.Common.{◌≡◌, ℕ, zero, suc, ◌+◌, ◌<◌, ◌==◌, ◌&&◌, Bool, true, false, List, [], ◌∷◌, ◌++◌}
-use Rattle.std.proofs.Common.{slice_get, slice_set, get_or, Some, ◌⊎◌, inl, inr, refl, sym, ap, ◌∙◌, arith, length-set, eq-eqb, ne_eqb, if◌then◌else◌, nat_eq}
+use Rattle.std.proofs.Common.{slice_get, slice_set, Some, ◌⊎◌, inl, inr, refl, sym, ap, ◌∙◌, arith, length-set, eq-eqb, ne_eqb, if◌then◌else◌, nat_eq}
 use Rattle.std.proofs.lemmas.Bool.Decides.{nat_tests}
 use Rattle.crash_free.proofs.Keeping.{set_cases}
 use Rattle.outcomes.specs.declared.text.form.Entry.{Entry}

@@ -1,48 +1,65 @@
 //! Steps of a rank's own, by the compact forms of their statements.
-ghost use Rattle.std.specs.Prelude.{◌≡◌, ◌<◌, ◌+◌, ◌-◌, ◌^◌, IfSome, Ok, Some, length, map, if◌then◌else◌};
-ghost use Rattle.rank_language.specs.Compact.{compact_line};
+ghost use Rattle.std.specs.Prelude.{◌≡◌, ◌<◌, ◌+◌, ◌-◌, ◌^◌, IfSome, Some, length, map, if◌then◌else◌};
+ghost use Rattle.rank_language.specs.Compact.{compact_line, nested_of};
 ghost use Rattle.rank_language.specs.Placed.{variable};
 ghost use Rattle.rank_language.specs.Program.{IsPlaced, IsWithin};
 ghost use Rattle.rank_language.specs.Seen.{operand_of};
 ghost use Rattle.rank_machine.specs.States.{assigned, item_assigned, item_value};
 ghost use Rattle.rank_machine.specs.Machine.{is_true, next_after, store_after, where_valued};
 ghost use Rattle.rank_machine.specs.Spelled.{let_expression, test_expression};
-ghost use Rattle.rank_machine.specs.Values.{truth, value};
+ghost use Rattle.rank_machine.specs.Values.{value};
 
 use crate::fault::MachineFault;
-use crate::operate::{difference, product, quotient, remainder, sum};
+use crate::operate::{difference, operated, product, quotient, remainder, sum, truth};
 use crate::store::Store;
-use rank_language::{Compact, Operand};
+use rank_language::{Compact, Nested, Operand};
 
 impl Store {
-    // Whether the test holds that a compact form spells. One that spells none tests 0.
+    // The value of an operation on an operation.
     #[inline(always)]
-    fn holds(&self, compact: &Compact) -> bool
+    fn nested(&self, nested: &Nested) -> Result<i64, MachineFault>
+        requires { IsWithin (length self.now.variables) (length self.now.arrays) (nested_of nested.now) }
+        ensures { result ≡ value self.now (nested_of nested.now) }
+    {
+        let left = self.operand(nested.left);
+        let middle = self.operand(nested.middle);
+        let left = operated(nested.inner, left, middle)?;
+        operated(nested.outer, left, self.operand(nested.right))
+    }
+
+    // The value that a compact form tests. One that tests none has 0.
+    #[inline(always)]
+    fn test_value(&self, compact: &Compact) -> Result<i64, MachineFault>
         requires placed { IfSome (compact_line compact.now) (IsPlaced (length self.now.variables) (length self.now.arrays)) }
-        ensures { value self.now (test_expression (compact_line compact.now)) ≡ Ok (truth result) }
+        ensures { result ≡ value self.now (test_expression (compact_line compact.now)) }
     {
         let values = &self.variables;
         match compact {
-            Compact::EqualNumber(left, right, _) => values[*left] == *right,
-            Compact::EqualVariable(left, right, _) => values[*left] == values[*right],
-            Compact::NotEqualNumber(left, right, _) => values[*left] != *right,
-            Compact::NotEqualVariable(left, right, _) => values[*left] != values[*right],
-            Compact::LessNumber(left, right, _) => values[*left] < *right,
-            Compact::LessVariable(left, right, _) => values[*left] < values[*right],
-            Compact::LessEqualNumber(left, right, _) => values[*left] <= *right,
-            Compact::LessEqualVariable(left, right, _) => values[*left] <= values[*right],
-            Compact::GreaterNumber(left, right, _) => values[*left] > *right,
-            Compact::GreaterVariable(left, right, _) => values[*left] > values[*right],
-            Compact::GreaterEqualNumber(left, right, _) => values[*left] >= *right,
-            Compact::GreaterEqualVariable(left, right, _) => values[*left] >= values[*right],
-            Compact::Other | Compact::Next | Compact::Jump(_) => false,
-            Compact::SetNumber(..) | Compact::SetVariable(..) | Compact::Item(..) => false,
-            Compact::SetItemNumber(..) | Compact::SetItemVariable(..) => false,
-            Compact::AddNumber(..) | Compact::AddVariable(..) => false,
-            Compact::SubtractNumber(..) | Compact::SubtractVariable(..) => false,
-            Compact::MultiplyNumber(..) | Compact::MultiplyVariable(..) => false,
-            Compact::DivideNumber(..) | Compact::DivideVariable(..) => false,
-            Compact::RemainderNumber(..) | Compact::RemainderVariable(..) => false,
+            Compact::EqualNumber(left, right, _) => Ok(truth(values[*left] == *right)),
+            Compact::EqualVariable(left, right, _) => Ok(truth(values[*left] == values[*right])),
+            Compact::NotEqualNumber(left, right, _) => Ok(truth(values[*left] != *right)),
+            Compact::NotEqualVariable(left, right, _) => Ok(truth(values[*left] != values[*right])),
+            Compact::LessNumber(left, right, _) => Ok(truth(values[*left] < *right)),
+            Compact::LessVariable(left, right, _) => Ok(truth(values[*left] < values[*right])),
+            Compact::LessEqualNumber(left, right, _) => Ok(truth(values[*left] <= *right)),
+            Compact::LessEqualVariable(left, right, _) => Ok(truth(
+                values[*left] <= values[*right],
+            )),
+            Compact::GreaterNumber(left, right, _) => Ok(truth(values[*left] > *right)),
+            Compact::GreaterVariable(left, right, _) => Ok(truth(values[*left] > values[*right])),
+            Compact::GreaterEqualNumber(left, right, _) => Ok(truth(values[*left] >= *right)),
+            Compact::GreaterEqualVariable(left, right, _) => Ok(truth(
+                values[*left] >= values[*right],
+            )),
+            Compact::TestNested(nested, _) => self.nested(nested),
+            Compact::Other | Compact::Next | Compact::Jump(_) => Ok(0),
+            Compact::SetNumber(..) | Compact::SetVariable(..) | Compact::SetNested(..) => Ok(0),
+            Compact::Item(..) | Compact::SetItemNumber(..) | Compact::SetItemVariable(..) => Ok(0),
+            Compact::AddNumber(..) | Compact::AddVariable(..) => Ok(0),
+            Compact::SubtractNumber(..) | Compact::SubtractVariable(..) => Ok(0),
+            Compact::MultiplyNumber(..) | Compact::MultiplyVariable(..) => Ok(0),
+            Compact::DivideNumber(..) | Compact::DivideVariable(..) => Ok(0),
+            Compact::RemainderNumber(..) | Compact::RemainderVariable(..) => Ok(0),
         }
     }
 
@@ -54,7 +71,10 @@ impl Store {
         ensures { result ≡ where_valued (value self.now (test_expression (compact_line compact.now)))
             (if is_true (value self.now (test_expression (compact_line compact.now))) then position + 1 else otherwise.now) }
     {
-        if self.holds(compact) {
+        let Ok(value) = self.test_value(compact) else {
+            return None;
+        };
+        if value != 0 {
             Some(position + 1)
         } else {
             Some(*otherwise)
@@ -82,6 +102,7 @@ impl Store {
             Compact::RemainderNumber(_, left, right) => remainder(values[*left], *right),
             Compact::RemainderVariable(_, left, right) => remainder(values[*left], values[*right]),
             Compact::Item(_, array, index) => self.arrays[*array].item_at(values[*index]),
+            Compact::SetNested(_, nested) => self.nested(nested),
             Compact::Other | Compact::Next | Compact::Jump(_) => Ok(0),
             Compact::SetItemNumber(..) | Compact::SetItemVariable(..) => Ok(0),
             Compact::EqualNumber(..) | Compact::EqualVariable(..) => Ok(0),
@@ -90,6 +111,7 @@ impl Store {
             Compact::LessEqualNumber(..) | Compact::LessEqualVariable(..) => Ok(0),
             Compact::GreaterNumber(..) | Compact::GreaterVariable(..) => Ok(0),
             Compact::GreaterEqualNumber(..) | Compact::GreaterEqualVariable(..) => Ok(0),
+            Compact::TestNested(..) => Ok(0),
         }
     }
 
@@ -177,6 +199,7 @@ impl Store {
             | Compact::DivideVariable(place, _, _)
             | Compact::RemainderNumber(place, _, _)
             | Compact::RemainderVariable(place, _, _)
+            | Compact::SetNested(place, _)
             | Compact::Item(place, _, _) => self.assign(place, compact, position),
             Compact::SetItemNumber(array, index, value) => {
                 self.set_item(*array, *index, Operand::Number(*value), position)
@@ -195,7 +218,8 @@ impl Store {
             | Compact::GreaterNumber(_, _, unmet)
             | Compact::GreaterVariable(_, _, unmet)
             | Compact::GreaterEqualNumber(_, _, unmet)
-            | Compact::GreaterEqualVariable(_, _, unmet) => self.test(compact, position, unmet),
+            | Compact::GreaterEqualVariable(_, _, unmet)
+            | Compact::TestNested(_, unmet) => self.test(compact, position, unmet),
         }
     }
 }

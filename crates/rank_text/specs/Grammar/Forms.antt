@@ -189,15 +189,20 @@ while_of ts = do
   e ← whole_expression ts
   Ok (while_form e)
 
+-- the form of `send` with this destination, from its tag on
+abbrev pub sent_of : Tree → List Token → Read Form
+sent_of d ts = do
+  g ← expression_at ts
+  us ← comma g.1
+  p ← payload_of us
+  Ok (send_form d g.0 p)
+
 -- the form of `send` with these arguments
 unfoldable pub send_of : List Token → Read Form
 send_of ts = do
   d ← expression_at ts
   us ← comma d.1
-  g ← expression_at us
-  vs ← comma g.1
-  p ← payload_of vs
-  Ok (send_form d.0 g.0 p)
+  sent_of d.0 us
 
 -- the form of `recv` with these arguments
 unfoldable pub recv_of : List Token → Read Form

@@ -1,10 +1,10 @@
 //! Whether each rank's sends, and its receptions, are the same in all runs: searches of the
 //! telling programs.
-ghost use Rattle.std.specs.Prelude.{◌≡◌, ◌++◌, ℕ, false, true, IfOk, IfSome, IsNone, List, OnOk, slice_get, string_bytes};
+ghost use Rattle.std.specs.Prelude.{◌≡◌, ◌≤◌, ◌++◌, ℕ, false, true, IfOk, IfSome, IsNone, List, OnOk, slice_get, string_bytes};
 ghost use Rattle.runner.specs.Determinism.{AreAlike, ArePartedAt, IsKnown, PrintsOther, is_summary, lines_between, needs_telling, printed};
 ghost use Rattle.runner.specs.Determinism.{differ_text, first_text, known_text, past_text, same_text, stopped_text, who_differs};
 ghost use Rattle.explore.specs.declared.send_mode.SendMode.TheVariants.{Buffered};
-ghost use Rattle.runner.specs.Searches.{IsDeterminismText, IsFoundBy, IsToldOf};
+ghost use Rattle.runner.specs.Searches.{IsDeterminismText, IsFoundBy, IsKnownIn, IsKnownWithin, IsToldOf};
 
 use crate::commands::apart::{Apart, apart_of};
 use crate::commands::exploring::search;
@@ -16,7 +16,13 @@ use limits::Heap;
 use rank_language::LinedProgram;
 use std::alloc::AllocError;
 use std::fmt::Write;
-use synchronous::{Telling, TellingFault, telling_program};
+use telling::{Telling, TellingFault, telling_program};
+
+// How many runs a search looks at that is made first. Two outcomes that differ are all that is
+// looked for, and where receptions race the first two runs have such outcomes: a search goes depth
+// first, so they part at their last choice. So few runs and outcomes cost next to nothing where the
+// whole search has to be made too.
+const BRIEF_RUNS: u32 = 64;
 
 /// What is known of whether each rank's sends, or its receptions, are the same in all runs.
 #[derive(Clone, Copy)]
@@ -68,7 +74,7 @@ fn is_summary(form: ExploreForm) -> bool
     }
 }
 
-// What a search of a telling program of the text says.
+// What is said of a telling program of the text.
 #[tactic(auto, using(crate::proofs::Searches::of_telling))]
 fn known_of<W: Watch>(
     alloc: Heap,
@@ -86,8 +92,53 @@ fn known_of<W: Watch>(
         Err(TellingFault::Fault(_)) => return Ok(Determinism::Untold),
         Err(TellingFault::Memory) => return Err(AllocError),
     };
-    let found = search(alloc, SendMode::Buffered, job, &told.program, watch)?;
-    let known = known_from(alloc, job, &told, &found)?;
+    let known = known_within(alloc, job, &told, watch)?;
+    Ok(known)
+}
+
+// What is known of a telling program: often a brief search is enough. The whole one would find the
+// same outcomes first, in the same order, so the first two that differ would be the same.
+#[tactic(auto, using(crate::proofs::Searches::of_brief, crate::proofs::Searches::of_whole))]
+fn known_within<W: Watch>(
+    alloc: Heap,
+    job: ExploreJob<'_>,
+    told: &LinedProgram,
+    watch: &mut W,
+) -> Result<Determinism, AllocError>
+    ensures { IfOk result (IsKnownWithin told.now.program told.now.lines.items job.entry) }
+{
+    if BRIEF_RUNS < job.runs {
+        let known = known_in(alloc, job, BRIEF_RUNS, told, watch)?;
+        if !is_stopped(known) {
+            return Ok(known);
+        }
+    }
+    Ok(known_in(alloc, job, job.runs, told, watch)?)
+}
+
+fn is_stopped(known: Determinism) -> bool
+    ensures { result ≡ false → known ≡ Determinism.Stopped → ⊥ }
+{
+    match known {
+        Determinism::Stopped => true,
+        Determinism::Untold | Determinism::PastLimits => false,
+        Determinism::Same | Determinism::Differ(_) => false,
+    }
+}
+
+// What a search of a telling program says that looks at so many runs at most.
+#[tactic(auto, using(crate::proofs::Searches::of_search))]
+fn known_in<W: Watch>(
+    alloc: Heap,
+    job: ExploreJob<'_>,
+    runs: u32,
+    told: &LinedProgram,
+    watch: &mut W,
+) -> Result<Determinism, AllocError>
+    ensures { IfOk result (IsKnownIn runs told.now.program told.now.lines.items job.entry) }
+{
+    let found = search(alloc, SendMode::Buffered, job, runs, &told.program, watch)?;
+    let known = known_from(alloc, job, runs, told, &found)?;
     Ok(known)
 }
 
@@ -96,10 +147,11 @@ fn known_of<W: Watch>(
 fn known_from(
     alloc: Heap,
     job: ExploreJob<'_>,
+    runs: u32,
     told: &LinedProgram,
     found: &Explored,
 ) -> Result<Determinism, AllocError>
-    requires { IsFoundBy told.now.program Buffered job found.now }
+    requires { IsFoundBy told.now.program Buffered job runs found.now }
     ensures { IfOk result (IsKnown told.now.program told.now.lines.items job.entry.ranks found.now) }
 {
     match two_that_differ(found) {

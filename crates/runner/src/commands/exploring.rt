@@ -63,10 +63,12 @@ fn found_of<'a, W: Watch>(
     ensures refused { IfErr result (UnlessMemory (HasNoOutcomeOf job.entry)) }
 {
     let program = &searched.program;
-    let found = search(alloc, mode_of(job.synchronous), job, program, watch)?;
+    let mode = mode_of(job.synchronous);
+    let found = search(alloc, mode, job, job.runs, program, watch)?;
     let safety = safety_of(alloc, job, searched, &found, watch)?;
     let mut answer = answer_of(
         alloc,
+        mode,
         job,
         searched.lines.as_slice(),
         program,
@@ -77,24 +79,30 @@ fn found_of<'a, W: Watch>(
     Ok(Said::answer(alloc, status_of(&found), answer.into_bytes()))
 }
 
-/// What a search of the program finds by this mode of sends, within the limits of the job. If it isn't
-/// complete, another closes over states, if one comes back.
+/// What a search of the program finds by this mode of sends that looks at so many runs at most, within
+/// the job's limits of steps and states. If it isn't complete, another closes over states, if one
+/// comes back.
 #[tactic(auto, using(crate::proofs::Searches::is_found_by, crate::proofs::Searches::ends_found_by))]
 pub fn search<W: Watch>(
     alloc: Heap,
     mode: SendMode,
     job: ExploreJob<'_>,
+    runs: u32,
     program: &Program,
     watch: &mut W,
 ) -> Result<Explored, AllocError>
-    ensures { IfOk result (λ found. IsFoundBy program.now mode job.entry found) }
+    ensures { IfOk result (λ found. IsFoundBy program.now mode job.entry runs found) }
 {
     law_masks_reports();
-    let found = explore(alloc, mode, program, job.ranks, limits_of(job), watch)?;
+    let limits = Limits {
+        runs,
+        ..limits_of(job)
+    };
+    let found = explore(alloc, mode, program, job.ranks, limits, watch)?;
     if found.complete {
         return Ok(found);
     }
-    match explore_ends(alloc, mode, program, job.ranks, limits_of(job), watch)? {
+    match explore_ends(alloc, mode, program, job.ranks, limits, watch)? {
         Some(closed) => Ok(closed),
         None => Ok(found),
     }
@@ -113,39 +121,43 @@ fn status_of(found: &Explored) -> u8
 #[tactic(auto, using(crate::proofs::Searches::text_printed, crate::proofs::Searches::summary_printed, crate::proofs::Searches::json_printed, crate::proofs::Searches::events_printed, crate::proofs::Reasons::of_memory, crate::proofs::Reasons::outcome_of_job))]
 fn answer_of<'a>(
     alloc: Heap,
+    mode: SendMode,
     job: ExploreJob<'a>,
     lines: &[usize],
     program: &Program,
     found: &Explored,
     safety: &Safety,
 ) -> Result<String<Heap>, Refusal<'a>>
+    requires { mode ≡ mode_of job.synchronous }
     ensures answer { IfOk result (λ answer. IsPrinted lines.now program.now job.entry found.now safety.now (string_bytes answer)) }
     ensures refused { IfErr result (UnlessMemory (HasNoOutcomeOf job.entry)) }
 {
     match job.form {
-        ExploreForm::Events(number) => match events_of(alloc, job, number, program, found) {
+        ExploreForm::Events(number) => match events_of(alloc, mode, job, number, program, found) {
             Ok(text) => Ok(text),
             Err(refusal) => Err(refusal),
         },
-        ExploreForm::Text => Ok(found_text(alloc, job, lines, program, found, safety)?),
-        ExploreForm::Summary => Ok(summary_text(alloc, job, lines, program, found, safety)?),
-        ExploreForm::Json => Ok(json_text(alloc, job, lines, program, found, safety)?),
+        ExploreForm::Text => Ok(found_text(alloc, mode, job, lines, program, found, safety)?),
+        ExploreForm::Summary => Ok(summary_text(alloc, mode, job, lines, program, found, safety)?),
+        ExploreForm::Json => Ok(json_text(alloc, mode, job, lines, program, found, safety)?),
     }
 }
 
 fn found_text(
     alloc: Heap,
+    mode: SendMode,
     job: ExploreJob<'_>,
     lines: &[usize],
     program: &Program,
     found: &Explored,
     safety: &Safety,
 ) -> Result<String<Heap>, AllocError>
+    requires { mode ≡ mode_of job.synchronous }
     ensures { IfOk result (λ answer. IsMarkedText job.entry.synchronous lines.now program.now job.entry.ranks found.now safety.now job.entry.runs (string_bytes answer)) }
 {
-    let marks = marks_in(alloc, job, program, found)?;
-    let cycle = cycle_in(alloc, job, program, found, lines)?;
-    let left = lined_of(alloc, job, program, lines, found)?;
+    let marks = marks_in(alloc, mode, job, program, found)?;
+    let cycle = cycle_in(alloc, mode, job, program, found, lines)?;
+    let left = lined_of(alloc, mode, job, program, lines, found)?;
     let mut text = print_explored(
         alloc,
         found,
@@ -160,20 +172,21 @@ fn found_text(
     Ok(text)
 }
 
-#[tactic(auto, using(crate::proofs::Written::is_marked_summary))]
 fn summary_text(
     alloc: Heap,
+    mode: SendMode,
     job: ExploreJob<'_>,
     lines: &[usize],
     program: &Program,
     found: &Explored,
     safety: &Safety,
 ) -> Result<String<Heap>, AllocError>
+    requires { mode ≡ mode_of job.synchronous }
     ensures { IfOk result (λ answer. IsMarkedSummary job.entry.synchronous lines.now program.now job.entry.ranks found.now safety.now job.entry.runs (string_bytes answer)) }
 {
-    let marks = marks_in(alloc, job, program, found)?;
-    let cycle = cycle_in(alloc, job, program, found, lines)?;
-    let left = lined_of(alloc, job, program, lines, found)?;
+    let marks = marks_in(alloc, mode, job, program, found)?;
+    let cycle = cycle_in(alloc, mode, job, program, found, lines)?;
+    let left = lined_of(alloc, mode, job, program, lines, found)?;
     let mut text = print_summary(
         alloc,
         found,
@@ -190,16 +203,18 @@ fn summary_text(
 
 fn json_text(
     alloc: Heap,
+    mode: SendMode,
     job: ExploreJob<'_>,
     lines: &[usize],
     program: &Program,
     found: &Explored,
     safety: &Safety,
 ) -> Result<String<Heap>, AllocError>
+    requires { mode ≡ mode_of job.synchronous }
     ensures { IfOk result (λ answer. IsMarkedObject job.entry.synchronous lines.now program.now job.entry.ranks found.now safety.now (string_bytes answer)) }
 {
-    let marks = marks_in(alloc, job, program, found)?;
-    let left = lined_of(alloc, job, program, lines, found)?;
+    let marks = marks_in(alloc, mode, job, program, found)?;
+    let left = lined_of(alloc, mode, job, program, lines, found)?;
     explored_json(
         alloc,
         found,
@@ -213,29 +228,17 @@ fn json_text(
 // The lines at which ranks went on until a state came back, if all wasn't searched and one did.
 fn cycle_in(
     alloc: Heap,
+    mode: SendMode,
     job: ExploreJob<'_>,
     program: &Program,
     found: &Explored,
     lines: &[usize],
 ) -> Result<Vec<usize, Heap>, AllocError>
-    ensures { IfOk result (λ cycle. GoesOnAt (mode_of job.entry.synchronous) program.now job.entry.ranks cycle.items) }
+    ensures { IfOk result (λ cycle. GoesOnAt mode program.now job.entry.ranks cycle.items) }
 {
     if found.complete {
         return Ok(Vec::new(alloc));
     }
-    cycle_by(alloc, job, mode_of(job.synchronous), program, lines)
-}
-
-// So it is by this mode of sends, if a state came back.
-fn cycle_by(
-    alloc: Heap,
-    job: ExploreJob<'_>,
-    mode: SendMode,
-    program: &Program,
-    lines: &[usize],
-) -> Result<Vec<usize, Heap>, AllocError>
-    ensures { IfOk result (λ cycle. GoesOnAt mode program.now job.entry.ranks cycle.items) }
-{
     match came_back(alloc, mode, program, job.ranks, limits_of(job))? {
         Some(cycle) => lines_at(alloc, cycle.positions.as_slice(), lines),
         None => Ok(Vec::new(alloc)),
@@ -269,38 +272,33 @@ fn add_line(found: &mut Vec<usize, Heap>, line: Option<usize>) -> Result<(), All
 // The mark of each outcome that was found.
 fn marks_in(
     alloc: Heap,
+    mode: SendMode,
     job: ExploreJob<'_>,
     program: &Program,
     found: &Explored,
 ) -> Result<Vec<Option<bool>, Heap>, AllocError>
-    ensures { IfOk result (λ marks. AreMarked (mode_of job.entry.synchronous) program.now job.entry.ranks found.now.outcomes found.now.choices marks.items) }
+    ensures { IfOk result (λ marks. AreMarked mode program.now job.entry.ranks found.now.outcomes found.now.choices marks.items) }
 {
-    marks_of(
-        alloc,
-        mode_of(job.synchronous),
-        program,
-        job.ranks,
-        limits_of(job),
-        found.outcomes.as_slice(),
-    )
+    let outcomes = found.outcomes.as_slice();
+    marks_of(alloc, mode, program, job.ranks, limits_of(job), outcomes)
 }
 
 // The events of a run that has the outcome of this number, from 1.
 #[tactic(auto, using(crate::proofs::Events::plays_outcome, crate::proofs::Reasons::no_outcome, crate::proofs::Reasons::outcome_not_played, crate::proofs::Reasons::of_memory))]
 fn events_of<'a>(
     alloc: Heap,
+    mode: SendMode,
     job: ExploreJob<'a>,
     number: u32,
     program: &Program,
     found: &Explored,
 ) -> Result<String<Heap>, Refusal<'a>>
-    ensures played { IfOk result (λ text. PlaysOutcome (mode_of job.entry.synchronous) program.now job.entry.ranks found.now.outcomes number (string_bytes text)) }
+    ensures played { IfOk result (λ text. PlaysOutcome mode program.now job.entry.ranks found.now.outcomes number (string_bytes text)) }
     ensures refused { IfErr result (UnlessMemory (HasNoOutcome number)) }
 {
     let Some(outcome) = outcome_at(found, number) else {
         return Err(Refusal::NoOutcome(number));
     };
-    let mode = mode_of(job.synchronous);
     match run_of(alloc, mode, program, job.ranks, limits_of(job), outcome) {
         Ok(Some(run)) => match play_text(alloc, program, job.ranks, &run) {
             Ok(text) => Ok(text),

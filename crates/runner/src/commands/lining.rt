@@ -1,34 +1,33 @@
 //! What was never received in runs that have an outcome, with the lines of the sends.
 ghost use Rattle.std.specs.Prelude.{◌≡◌, ◌<◌, IfOk, Some, length, slice_get};
-ghost use Rattle.runner.specs.Modes.{mode_of};
 ghost use Rattle.runner.specs.SentLines.{AreLined, AreListed, HaveLines};
 
 use crate::commands::exploring::limits_of;
-use crate::commands::sending::mode_of;
 use crate::commands::sent_lines::{lined_left, unlined};
 use crate::explored::{LinedLeftovers, LinedOutcome, outcome_at};
 use command_line::ExploreJob;
-use explore::{Explored, FoundOutcome, Leftovers, run_leaving};
+use explore::{Explored, FoundOutcome, Leftovers, SendMode, run_leaving};
 use limits::Heap;
 use rank_language::Program;
 use std::alloc::AllocError;
 
-/// What is listed of each outcome, by the mode of sends of the job. The statement at position K of the program
-/// stands on line `lines[K]` of its text. An `Err` means out of memory.
+/// What is listed of each outcome of a search by this mode of sends. The statement at position K of
+/// the program stands on line `lines[K]` of its text. An `Err` means out of memory.
 #[tactic(auto, using(crate::proofs::SentLines::none_lined, crate::proofs::SentLines::one_more_lined))]
 pub fn lined_of(
     alloc: Heap,
+    mode: SendMode,
     job: ExploreJob<'_>,
     program: &Program,
     lines: &[usize],
     found: &Explored,
 ) -> Result<Vec<LinedOutcome, Heap>, AllocError>
-    ensures { IfOk result (λ lined. AreLined (mode_of job.entry.synchronous) program.now job.entry.ranks lines.now found.now.outcomes found.now.left lined.items) }
+    ensures { IfOk result (λ lined. AreLined mode program.now job.entry.ranks lines.now found.now.outcomes found.now.left lined.items) }
 {
     let mut lined = Vec::new(alloc);
     for index in 0..found.outcomes.len() {
         let outcome = outcome_at(found, index);
-        lined.push(lined_outcome(alloc, job, program, lines, outcome)?)?;
+        lined.push(lined_outcome(alloc, mode, job, program, lines, outcome)?)?;
     }
     Ok(lined)
 }
@@ -36,17 +35,18 @@ pub fn lined_of(
 #[tactic(auto, using(crate::proofs::SentLines::none_listed))]
 fn lined_outcome(
     alloc: Heap,
+    mode: SendMode,
     job: ExploreJob<'_>,
     program: &Program,
     lines: &[usize],
     outcome: &FoundOutcome,
 ) -> Result<LinedOutcome, AllocError>
-    ensures { IfOk result (AreListed (mode_of job.entry.synchronous) program.now job.entry.ranks lines.now outcome.now.ranks outcome.now.left) }
+    ensures { IfOk result (AreListed mode program.now job.entry.ranks lines.now outcome.now.ranks outcome.now.left) }
 {
     let mut left = Vec::new(alloc);
     for index in 0..outcome.left.len() {
         let some = leftovers_at(outcome, index);
-        left.push(lined_leftovers(alloc, job, program, lines, outcome, some)?)?;
+        left.push(lined_leftovers(alloc, mode, job, program, lines, outcome, some)?)?;
     }
     Ok(LinedOutcome { left })
 }
@@ -62,18 +62,18 @@ fn leftovers_at(outcome: &FoundOutcome, index: usize) -> &Leftovers
 #[tactic(auto, using(crate::proofs::SentLines::unknown_lines))]
 fn lined_leftovers(
     alloc: Heap,
+    mode: SendMode,
     job: ExploreJob<'_>,
     program: &Program,
     lines: &[usize],
     outcome: &FoundOutcome,
     left: &Leftovers,
 ) -> Result<LinedLeftovers, AllocError>
-    ensures { IfOk result (HaveLines (mode_of job.entry.synchronous) program.now job.entry.ranks lines.now outcome.now.ranks left.now) }
+    ensures { IfOk result (HaveLines mode program.now job.entry.ranks lines.now outcome.now.ranks left.now) }
 {
     if left.messages.is_empty() {
         return Ok(unlined(alloc, left.messages.as_slice())?);
     }
-    let mode = mode_of(job.synchronous);
     match run_leaving(
         alloc,
         mode,

@@ -94,7 +94,14 @@ fn second_search<W: Watch>(
 ) -> Result<Safety, AllocError>
     ensures { IfOk result (λ safety. IsSecond searched.now.lines.items searched.now.program job.entry safety) }
 {
-    let found = search(alloc, SendMode::Synchronous, job, &searched.program, watch)?;
+    let found = search(
+        alloc,
+        SendMode::Synchronous,
+        job,
+        job.runs,
+        &searched.program,
+        watch,
+    )?;
     let verdict = verdict_of(alloc, job, searched, &found);
     drop(found);
     match verdict {

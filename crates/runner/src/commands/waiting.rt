@@ -5,9 +5,9 @@ ghost use Rattle.runner.specs.Waits.{AreWaits, IsEmpty, WaitWith, is_for_another
 ghost use Rattle.runner.specs.Waits.{some_wait, wait_for_each_other, waits_in_send, waits_somewhere};
 
 use crate::commands::exploring::limits_of;
-use crate::explored::{WaitingRank, WaitingRanks};
+use crate::explored::{WaitingRank, WaitingRanks, is_sent_by, is_tag};
 use command_line::ExploreJob;
-use crash_free::{Leftover, MessageMark, Sim};
+use crash_free::{Leftover, Sim};
 use explore::{Explored, FoundOutcome, Leftovers, SendMode, run_of};
 use limits::Heap;
 use rank_language::LinedProgram;
@@ -41,15 +41,6 @@ fn are_sent(messages: &[Leftover]) -> bool
     ensures { result ≡ list_any (λ x. is_tag x.mark) messages.now }
 {
     messages.iter().any(|message| is_tag(message.mark))
-}
-
-fn is_tag(mark: MessageMark) -> bool
-    ensures { result ≡ is_tag mark }
-{
-    match mark {
-        MessageMark::Tag(_) => true,
-        MessageMark::Call { .. } => false,
-    }
 }
 
 /// Which ranks wait in their sends in a run that has the outcome; none if none is found again.
@@ -110,13 +101,8 @@ fn line_of_its_send(run: &Sim<'_>, rank: u8, lines: &[usize]) -> Option<usize>
 fn waits_in_send(left: &[Leftover], rank: u8) -> bool
     ensures { result ≡ waits_in_send left.now rank }
 {
-    left.iter().any(|message| is_sent_by(rank, *message))
-}
-
-fn is_sent_by(rank: u8, message: Leftover) -> bool
-    ensures { result ≡ is_sent_by rank message }
-{
-    is_tag(message.mark) && message.source == rank
+    left.iter()
+        .any(|message| is_sent_by(usize::from(rank), *message))
 }
 
 fn wait_for_each_other(left: &[Leftover]) -> bool

@@ -1,7 +1,8 @@
 //! Messages that were never received, with the lines at which they were sent.
 ghost use Rattle.std.specs.Prelude.{◌≡◌, [], slice_index_or};
+ghost use Rattle.runner.specs.Waits.{is_sent_by, is_tag};
 
-use crash_free::Leftover;
+use crash_free::{Leftover, MessageMark};
 use limits::Heap;
 use std::marker::Model;
 
@@ -50,5 +51,23 @@ pub fn left_at(lined: &[LinedOutcome], index: usize) -> &[LinedLeftovers]
     match lined.get(index) {
         Some(outcome) => outcome.left.as_slice(),
         None => &[],
+    }
+}
+
+/// Whether this rank sent the message by a send, not in a collective. While sends are
+/// synchronous, it waits there.
+pub fn is_sent_by(rank: usize, message: Leftover) -> bool
+    ensures { result ≡ is_sent_by rank message }
+{
+    is_tag(message.mark) && usize::from(message.source) == rank
+}
+
+/// Whether the message is one of a send.
+pub fn is_tag(mark: MessageMark) -> bool
+    ensures { result ≡ is_tag mark }
+{
+    match mark {
+        MessageMark::Tag(_) => true,
+        MessageMark::Call { .. } => false,
     }
 }

@@ -1,31 +1,33 @@
 //! What the outcomes of a program mean.
-ghost use Rattle.std.specs.Prelude.{◌≡◌, ◌++◌, OnOk, length, string_bytes};
-ghost use Rattle.std.specs.Fmt.{decimal};
-ghost use Rattle.explore.specs.Explored.{rank_outcomes};
-ghost use Rattle.runner.specs.Meanings.{between, cycle_line, cycle_text, cycle_words, enumeration, fault_line, fault_words, faults_text, is_of, limits_text, lone_lines, lone_words, named_lines, named_ranks};
-ghost use Rattle.runner.specs.Meanings.{count_text, crashes_text, mark_text, marks_text, meaning_text, only_text, ranks_line, ranks_of, runs_text, stalls_text};
-ghost use Rattle.runner.specs.Meanings.{states_text, steps_text, stop_text, unhalted_text};
+ghost use Rattle.std.specs.Prelude.{◌≡◌, ◌++◌, OnOk, string_bytes};
+ghost use Rattle.runner.specs.Meanings.{count_text, crashes_text, cycle_line, cycle_text, cycle_words, limits_text, lone_lines, lone_words};
+ghost use Rattle.runner.specs.Meanings.{mark_text, marks_text, meaning_text, only_text, runs_text, states_text, steps_text, stop_text};
 
-use audit::End;
-use explore::{Explored, FoundOutcome, RankEnd};
+use crate::explored::enumerating::print_lines;
+use crate::explored::lined::LinedOutcome;
+use crate::explored::unhalted::print_unhalted;
+use explore::Explored;
 use limits::Heap;
 use std::alloc::AllocError;
 use std::fmt::Write;
 
 /// What the outcomes mean that a search found, which looked at no more than so
-/// many runs, which of them have a mark, at which lines a state came back, and how many they are.
+/// many runs, with what was never received; which of them have a mark, at which
+/// lines a state came back, and how many they are.
 pub fn print_meaning(
+    alloc: Heap,
     text: &mut String<Heap>,
     found: &Explored,
+    left: &[LinedOutcome],
     marks: &[Option<bool>],
     cycle: &[usize],
     runs: u32,
     synchronous: bool,
 ) -> Result<(), AllocError>
-    ensures { OnOk result (string_bytes text.new ≡ string_bytes text.old ++ meaning_text synchronous found.now marks.now cycle.now runs) }
+    ensures { OnOk result (string_bytes text.new ≡ string_bytes text.old ++ meaning_text synchronous found.now left.now marks.now cycle.now runs) }
 {
     print_only(text, found, synchronous)?;
-    print_unhalted(text, found.outcomes.as_slice())?;
+    print_unhalted(alloc, text, found.outcomes.as_slice(), left, synchronous)?;
     print_marks(text, marks)?;
     print_state_limit(text, found)?;
     print_limits(text, found, cycle, runs)?;
@@ -164,27 +166,6 @@ fn print_cycle_words(text: &mut String<Heap>) -> Result<(), AllocError>
     text.push_str("# a state came back: the ranks may go on for ever, at ")
 }
 
-/// The lines: `line 3`, `lines 3 and 4`.
-pub fn print_lines(text: &mut String<Heap>, lines: &[usize]) -> Result<(), AllocError>
-    ensures { OnOk result (string_bytes text.new ≡ string_bytes text.old ++ named_lines lines.now) }
-{
-    let count = lines.len();
-    text.push_str(if count == 1 { "line " } else { "lines " })?;
-    print_numbers(text, lines)
-}
-
-/// The numbers: `3`, `3 and 4`, `3, 4 and 6`.
-pub fn print_numbers(text: &mut String<Heap>, numbers: &[usize]) -> Result<(), AllocError>
-    ensures { OnOk result (string_bytes text.new ≡ string_bytes text.old ++ enumeration numbers.now) }
-{
-    let mut rest = numbers;
-    while let [number, more @ ..] = rest {
-        print_number(text, *number, more.len())?;
-        rest = more;
-    }
-    Ok(())
-}
-
 fn print_step_limit(text: &mut String<Heap>, found: &Explored) -> Result<(), AllocError>
     ensures { OnOk result (string_bytes text.new ≡ string_bytes text.old ++ steps_text found.now) }
 {
@@ -201,171 +182,6 @@ fn print_run_limit(text: &mut String<Heap>, found: &Explored, runs: u32) -> Resu
         return Ok(());
     }
     text.push_str("# not all was looked at: allow more runs (--runs)\n")
-}
-
-/// How a rank ends that doesn't halt.
-#[derive(Clone, Copy, PartialEq, Eq)]
-enum NoHalt {
-    Stalls,
-    Faults,
-}
-
-fn is_of(ending: NoHalt, end: End) -> bool
-    ensures { result ≡ is_of ending end }
-{
-    match end {
-        End::Stalled => ending == NoHalt::Stalls,
-        End::Faulted(_) => ending == NoHalt::Faults,
-        End::Halted | End::Unfinished => false,
-    }
-}
-
-// Which ranks of the outcomes don't halt.
-fn print_unhalted(text: &mut String<Heap>, outcomes: &[FoundOutcome]) -> Result<(), AllocError>
-    ensures { OnOk result (string_bytes text.new ≡ string_bytes text.old ++ unhalted_text 1 (rank_outcomes outcomes.now)) }
-{
-    let mut number = 0usize;
-    let mut rest = outcomes;
-    while let [outcome, more @ ..] = rest {
-        number += 1;
-        print_stalled(text, number, outcome.ranks.as_slice())?;
-        print_faulted(text, number, outcome.ranks.as_slice())?;
-        rest = more;
-    }
-    Ok(())
-}
-
-fn print_stalled(
-    text: &mut String<Heap>,
-    number: usize,
-    ranks: &[RankEnd],
-) -> Result<(), AllocError>
-    ensures { OnOk result (string_bytes text.new ≡ string_bytes text.old ++ stalls_text number (ranks_of NoHalt.Stalls 0 ranks.now)) }
-{
-    let count = count_of(ranks, NoHalt::Stalls);
-    if count == 0 {
-        return Ok(());
-    }
-    write!(text, "# outcome {number} stalls: ")?;
-    print_ranks(text, ranks, NoHalt::Stalls, count)?;
-    if count == 1 {
-        text.push_str(" waits for a message that doesn't come\n")
-    } else {
-        text.push_str(" wait for messages that don't come\n")
-    }
-}
-
-fn print_faulted(
-    text: &mut String<Heap>,
-    number: usize,
-    ranks: &[RankEnd],
-) -> Result<(), AllocError>
-    ensures { OnOk result (string_bytes text.new ≡ string_bytes text.old ++ faults_text number (ranks_of NoHalt.Faults 0 ranks.now)) }
-{
-    let count = count_of(ranks, NoHalt::Faults);
-    if count == 0 {
-        return Ok(());
-    }
-    print_fault_line(text, number, ranks, count)
-}
-
-fn print_fault_line(
-    text: &mut String<Heap>,
-    number: usize,
-    ranks: &[RankEnd],
-    count: usize,
-) -> Result<(), AllocError>
-    requires { count ≡ length (ranks_of NoHalt.Faults 0 ranks.now) }
-    ensures { OnOk result (string_bytes text.new ≡ string_bytes text.old ++ fault_line number (ranks_of NoHalt.Faults 0 ranks.now)) }
-{
-    print_fault_words(text, number)?;
-    print_ranks_line(text, ranks, NoHalt::Faults, count)
-}
-
-#[tactic(auto, unfolding(crate::specs::Meanings::fault_words))]
-fn print_fault_words(text: &mut String<Heap>, number: usize) -> Result<(), AllocError>
-    ensures { OnOk result (string_bytes text.new ≡ string_bytes text.old ++ fault_words number) }
-{
-    write!(text, "# outcome {number} has a fault: ")
-}
-
-fn print_ranks_line(
-    text: &mut String<Heap>,
-    ranks: &[RankEnd],
-    ending: NoHalt,
-    count: usize,
-) -> Result<(), AllocError>
-    requires { count ≡ length (ranks_of ending 0 ranks.now) }
-    ensures { OnOk result (string_bytes text.new ≡ string_bytes text.old ++ ranks_line (ranks_of ending 0 ranks.now)) }
-{
-    print_ranks(text, ranks, ending, count)?;
-    text.push_str("\n")
-}
-
-fn count_of(ranks: &[RankEnd], ending: NoHalt) -> usize
-    ensures { result ≡ length (ranks_of ending 0 ranks.now) }
-{
-    let mut count = 0usize;
-    let mut rank = 0usize;
-    let mut rest = ranks;
-    while let [seen, more @ ..] = rest {
-        if is_of(ending, seen.end) {
-            count += 1;
-        }
-        rank += 1;
-        rest = more;
-    }
-    count
-}
-
-// The ranks that end so, which are so many: `rank 1`, `ranks 0 and 1`, `ranks 0, 1 and 3`.
-fn print_ranks(
-    text: &mut String<Heap>,
-    ranks: &[RankEnd],
-    ending: NoHalt,
-    count: usize,
-) -> Result<(), AllocError>
-    requires { count ≡ length (ranks_of ending 0 ranks.now) }
-    ensures { OnOk result (string_bytes text.new ≡ string_bytes text.old ++ named_ranks (ranks_of ending 0 ranks.now)) }
-{
-    text.push_str(if count == 1 { "rank " } else { "ranks " })?;
-    print_enumeration(text, ranks, ending, count)
-}
-
-fn print_enumeration(
-    text: &mut String<Heap>,
-    ranks: &[RankEnd],
-    ending: NoHalt,
-    count: usize,
-) -> Result<(), AllocError>
-    requires { count ≡ length (ranks_of ending 0 ranks.now) }
-    ensures { OnOk result (string_bytes text.new ≡ string_bytes text.old ++ enumeration (ranks_of ending 0 ranks.now)) }
-{
-    let mut left = count;
-    let mut rank = 0usize;
-    let mut rest = ranks;
-    while let [seen, more @ ..] = rest {
-        if is_of(ending, seen.end) {
-            left -= 1;
-            print_number(text, rank, left)?;
-        }
-        rank += 1;
-        rest = more;
-    }
-    Ok(())
-}
-
-// A number, and what stands between it and these many more.
-fn print_number(text: &mut String<Heap>, number: usize, left: usize) -> Result<(), AllocError>
-    ensures { OnOk result (string_bytes text.new ≡ string_bytes text.old ++ decimal number ++ between left) }
-{
-    if left == 0 {
-        write!(text, "{number}")
-    } else if left == 1 {
-        write!(text, "{number} and ")
-    } else {
-        write!(text, "{number}, ")
-    }
 }
 
 fn print_count(text: &mut String<Heap>, found: &Explored) -> Result<(), AllocError>

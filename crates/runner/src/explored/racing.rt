@@ -33,7 +33,16 @@ pub fn print_summary(
     }
     print_shorts(&mut text, left)?;
     print_safe(&mut text, found, synchronous)?;
-    print_meaning(&mut text, found, marks, cycle, limits.runs, synchronous)?;
+    print_meaning(
+        alloc,
+        &mut text,
+        found,
+        left,
+        marks,
+        cycle,
+        limits.runs,
+        synchronous,
+    )?;
     Ok(text)
 }
 

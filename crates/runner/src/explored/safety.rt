@@ -1,9 +1,8 @@
 //! Whether a program is safe: it needs no buffer.
 ghost use Rattle.std.specs.Prelude.{◌≡◌, ◌++◌, IfOk, OnOk, string_bytes};
-ghost use Rattle.runner.specs.Meanings.{named_ranks};
 ghost use Rattle.runner.specs.Safety.{safety_behind, safety_text, unknown_text, unsafe_words, wait_words, waiting_lines, waiting_ranks, waits_line, waits_text};
 
-use crate::explored::meaning::{print_lines, print_numbers};
+use crate::explored::enumerating::{print_lines, print_ranks};
 use limits::Heap;
 use std::alloc::AllocError;
 
@@ -146,15 +145,6 @@ fn print_unsafe_words(text: &mut String<Heap>) -> Result<(), AllocError>
     ensures { OnOk result (string_bytes text.new ≡ string_bytes text.old ++ unsafe_words) }
 {
     text.push_str("# not safe: without buffers ")
-}
-
-// The ranks: `rank 1`, `ranks 0 and 1`.
-fn print_ranks(text: &mut String<Heap>, ranks: &[usize]) -> Result<(), AllocError>
-    ensures { OnOk result (string_bytes text.new ≡ string_bytes text.old ++ named_ranks ranks.now) }
-{
-    let count = ranks.len();
-    text.push_str(if count == 1 { "rank " } else { "ranks " })?;
-    print_numbers(text, ranks)
 }
 
 fn print_wait_words(text: &mut String<Heap>, waits: &WaitingRanks) -> Result<(), AllocError>

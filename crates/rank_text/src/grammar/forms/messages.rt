@@ -2,8 +2,9 @@
 ghost use Rattle.std.specs.Prelude.{◌≡◌, IfOk};
 ghost use Rattle.rank_text.specs.declared.grammar.token.Token.{Token};
 ghost use Rattle.rank_text.specs.Grammar.Forms.{whole_pattern};
-ghost use Rattle.rank_text.specs.Grammar.Forms.{send_of, recv_of, probe_of, try_probe_of};
+ghost use Rattle.rank_text.specs.Grammar.Forms.{send_of, sent_of, recv_of, probe_of, try_probe_of};
 ghost use Rattle.rank_text.specs.Grammar.SeenForms.{form_in};
+ghost use Rattle.rank_text.specs.Grammar.Tree.{tree_of};
 
 use super::arguments::{
     after_comma, envelope_in_front, only_name, pattern_in_front, read_payload, whole_pattern,
@@ -12,6 +13,7 @@ use crate::grammar::form::Form;
 use crate::grammar::misfit::Misfit;
 use crate::grammar::reader::expression_at;
 use crate::grammar::token::Token;
+use crate::grammar::written::Written;
 use limits::Heap;
 use std::alloc::AllocError;
 
@@ -26,14 +28,24 @@ pub(super) fn read_send(
         Ok(found) => found,
         Err(misfit) => return Ok(Err(misfit)),
     };
-    let rest = match after_comma(rest) {
-        Ok(found) => found,
+    match after_comma(rest) {
+        Ok(rest) => read_sent(alloc, dest, rest),
         Err(misfit) => {
             drop(dest);
-            return Ok(Err(misfit));
+            Ok(Err(misfit))
         }
-    };
-    let (tag, rest) = match expression_at(alloc, rest) {
+    }
+}
+
+/// From the tag on.
+fn read_sent(
+    alloc: Heap,
+    dest: Written,
+    tokens: &[Token],
+) -> Result<Result<Form, Misfit<'_>>, AllocError>
+    ensures { IfOk result (λ f. form_in f ≡ sent_of (tree_of dest) tokens.now) }
+{
+    let (tag, rest) = match expression_at(alloc, tokens) {
         Ok(Ok(found)) => found,
         Ok(Err(misfit)) => {
             drop(dest);

@@ -18,8 +18,14 @@ returns-then-is_err-clause-refused c =
     let found = found_by c.args.selector.now known c.ranks-ranks.ensures.value c.in-Some.ensures.source c.in-Some.ensures.index c.in-Some.ensures.first in
     refuses_memory (receiving c.args.selector.now) known found
 
-pub take-packet-requires-clause-there : goal.take-packet-requires-clause-there
-take-packet-requires-clause-there c =
+pub returns-in_default-take-clause-refused : goal.returns-in_default-take-clause-refused
+returns-in_default-take-clause-refused c =
+    let known = sought c.args.rank (Receive c.args.selector.now) c.self.view_is c.self.invariant.0 c.requires.there c.requires.wanted in
+    let found = found_by c.args.selector.now known c.ranks-ranks.ensures.value c.in-Some.ensures.source c.in-Some.ensures.index c.in-Some.ensures.first in
+    refuses_memory (receiving c.args.selector.now) known found
+
+pub take-requires-clause-there : goal.take-requires-clause-there
+take-requires-clause-there c =
     let known = sought c.args.rank (Receive c.args.selector.now) c.self.view_is c.self.invariant.0 c.requires.there c.requires.wanted in
     let found = found_by c.args.selector.now known c.ranks-ranks.ensures.value c.in-Some.ensures.source c.in-Some.ensures.index c.in-Some.ensures.first in
     slot_there known found
@@ -30,8 +36,8 @@ give-requires c =
     let found = found_by c.args.selector.now known c.ranks-ranks.ensures.value c.in-Some.ensures.source c.in-Some.ensures.index c.in-Some.ensures.first in
     let at = found_machine (Receive c.args.selector.now) c.self.view_is c.from.ensures c.requires.there c.requires.wanted c.index_mut-machine.ensures.value in
     record {
-      receiving = may_give c.take-packet.result at.1 (packet_matches c.take-packet.result found c.take-packet.ensures.packet);
-      source = source_there known found at.0 c.take-packet.ensures.packet;
+      receiving = may_give c.in-Ok.packet at.1 (packet_matches c.in-Ok.packet found c.in-Ok.ensures.packet);
+      source = source_there known found at.0 c.in-Ok.ensures.packet;
     }
 
 pub invariant_of-self-2 : goal.invariant_of-self-2
@@ -39,10 +45,10 @@ invariant_of-self-2 c =
     let known = sought c.args.rank (Receive c.args.selector.now) c.self.view_is c.self.invariant.0 c.requires.there c.requires.wanted in
     let found = found_by c.args.selector.now known c.ranks-ranks.ensures.value c.in-Some.ensures.source c.in-Some.ensures.index c.in-Some.ensures.first in
     let at = found_machine (Receive c.args.selector.now) c.self.view_is c.from.ensures c.requires.there c.requires.wanted c.index_mut-machine.ensures.value in
-    let done = done_take c.self.invariant.0 at.0 at.1 found c.take-packet.ensures.packet c.give.ensures.state c.give.ensures.position c.give.ensures.stays in (
+    let done = done_take c.self.invariant.0 at.0 at.1 found c.in-Ok.ensures.packet c.give.ensures.state c.give.ensures.position c.give.ensures.stays in (
       rw (
         c.from.ensures,
-        c.take-packet.ensures.left,
+        c.in-Ok.ensures.left,
         c.push_reserved.ensures.items,
         c.reserve.ensures.items,
         c.takes.ensures,
@@ -57,6 +63,6 @@ returns-clause-ok c =
     let known = sought c.args.rank (Receive c.args.selector.now) c.self.view_is c.self.invariant.0 c.requires.there c.requires.wanted in
     let found = found_by c.args.selector.now known c.ranks-ranks.ensures.value c.in-Some.ensures.source c.in-Some.ensures.index c.in-Some.ensures.first in
     let at = found_machine (Receive c.args.selector.now) c.self.view_is c.from.ensures c.requires.there c.requires.wanted c.index_mut-machine.ensures.value in
-    let done = done_take c.self.invariant.0 at.0 at.1 found c.take-packet.ensures.packet c.give.ensures.state c.give.ensures.position c.give.ensures.stays in
+    let done = done_take c.self.invariant.0 at.0 at.1 found c.in-Ok.ensures.packet c.give.ensures.state c.give.ensures.position c.give.ensures.stays in
     rw (← c.self.view_is, c.from.ensures, c.push_reserved.ensures.items, c.reserve.ensures.items, c.takes.ensures, run_push c.self.inside.passed.items _)
     done.allowed

@@ -1,5 +1,5 @@
 use Rattle.rank_text.proofs.GrammarLaws.FormLaws.{found, only}
-use Rattle.rank_text.proofs.GrammarLaws.MisfitLaws.{misfit}
+use Rattle.rank_text.proofs.GrammarLaws.MisfitLaws.Misfits.{misfit}
 use Rattle.rank_text.proofs.grammar.forms.form.Goals as goal
 
 pub returns-clause-found : goal.returns-clause-found

@@ -2,20 +2,20 @@ use Rattle.std.proofs.Common.{string_bytes, subst, sym}
 use Rattle.explore.specs.Shown.{AreMarked}
 use Rattle.runner.proofs.Written.{is_marked}
 use Rattle.runner.specs.OutcomesText.{GoesOnAt, IsExploredText}
-use Rattle.runner.specs.Modes.{mode_of}
 use Rattle.runner.specs.SentLines.{AreLined}
 use Rattle.runner.proofs.commands.exploring.found_text.Goals as goal
 
 -- the text that was written has the marks of the program and the lines of sends, and behind it whether that is safe
 pub returns : goal.returns
 returns c =
-    is_marked c.args.job.synchronous c.args.lines.now c.args.program.now c.args.job.ranks c.args.found.now c.args.safety.now c.as_slice.result.now
+    is_marked c.args.job.synchronous c.args.mode c.args.lines.now c.args.program.now c.args.job.ranks c.args.found.now c.args.safety.now c.as_slice.result.now
     c.as_slice-2.result.now c.as_slice-3.result.now c.args.job.runs (string_bytes c.in_ok-text.text) (string_bytes c.print_safety.new.text)
-    (subst (AreLined (mode_of c.args.job.synchronous) c.args.program.now c.args.job.ranks c.args.lines.now c.args.found.now.outcomes c.args.found.now.left)
+    c.requires
+    (subst (AreLined c.args.mode c.args.program.now c.args.job.ranks c.args.lines.now c.args.found.now.outcomes c.args.found.now.left)
     (sym c.as_slice.ensures.value) c.in_ok-left.ensures)
-    (subst (AreMarked (mode_of c.args.job.synchronous) c.args.program.now c.args.job.ranks c.args.found.now.outcomes c.args.found.now.choices) (sym c.as_slice-2.ensures.value)
+    (subst (AreMarked c.args.mode c.args.program.now c.args.job.ranks c.args.found.now.outcomes c.args.found.now.choices) (sym c.as_slice-2.ensures.value)
     c.in_ok-marks.ensures)
-    (subst (GoesOnAt (mode_of c.args.job.synchronous) c.args.program.now c.args.job.ranks) (sym c.as_slice-3.ensures.value) c.in_ok-cycle.ensures)
+    (subst (GoesOnAt c.args.mode c.args.program.now c.args.job.ranks) (sym c.as_slice-3.ensures.value) c.in_ok-cycle.ensures)
     (subst (λ runs. IsExploredText c.args.job.synchronous c.args.found.now c.as_slice.result.now c.as_slice-2.result.now c.as_slice-3.result.now runs
     c.args.lines.now (string_bytes c.in_ok-text.text))
     c.limits_of.ensures.runs c.in_ok-text.ensures)

@@ -1,6 +1,0 @@
-use Rattle.synchronous.specs.Telling.IsUntellable.{none_free}
-use Rattle.synchronous.proofs.telling.of_forms.Goals as goal
-
--- nothing is free
-pub returns-in-None-clause-past : goal.returns-in-None-clause-past
-returns-in-None-clause-past c = λ _. none_free c.requires (c.free_name.ensures.none c.in-None.is)
