@@ -19,7 +19,7 @@ import tempfile
 from collections.abc import Callable, Iterator
 from typing import IO
 
-from .files import NotMade, kit_folder, write
+from .files import NotMade, kit_folder, text_of, write
 from .sources import Sources
 
 TARGET = "x86_64-unknown-linux-gnu"
@@ -33,6 +33,9 @@ exec -a {real} {real} "$@"
 """
 PROVED = re.compile(r"rt: (\w+ (?:proved|NOT PROVED|is kept))")
 PREFIX = "ftmpi-made-by-"
+# Bytes. `rt ci` allows for two to three times what the check of a large crate has been seen to take
+# (4.4 GB at most), and so proves such crates one after another.
+A_CHECK = 5_000_000_000
 # PR_SET_PDEATHSIG: a process gets a signal when its parent ends
 PARENT_ENDS, LIBC = 1, ctypes.CDLL(None)
 
@@ -70,9 +73,9 @@ def started(words: list[str], cwd: str, folder: str, out: IO[bytes] | int, **mor
             process.wait()
 
 
-def run(words: list[str], cwd: str, folder: str, hear: Callable[[str], object] = bool) -> tuple[int, str]:
+def run(words: list[str], cwd: str, folder: str, hear: Callable[[str], object] = bool, **more: str) -> tuple[int, str]:
     """Runs a command. Returns its status and its output; `hear` gets each line as it comes."""
-    with started(words, cwd, folder, subprocess.PIPE) as process:
+    with started(words, cwd, folder, subprocess.PIPE, **more) as process:
         lines = []
         for line in process.stdout:
             lines.append(line.decode(errors="replace"))
@@ -120,6 +123,13 @@ def stand_in(kit: str, to: str, module: str) -> str:
     return f"{to}/bin/rt"
 
 
+def at_once() -> dict[str, str]:
+    """For the environment of `rt ci`: how many crates it is to prove at a time, one a processor as far
+    as there is memory."""
+    memory = 1024 * int(text_of("/proc/meminfo").partition("MemAvailable:")[2].split()[0])
+    return {"RT_JOBS": str(max(1, min(len(os.sched_getaffinity(0)), memory // A_CHECK)))}
+
+
 def proved(sources: Sources, folder: str) -> str:
     """Proves the sources and returns the path of the program. `rt ci` proves from nothing, crates
     side by side, and takes nothing but what an earlier `rt ci` on this machine passed."""
@@ -128,7 +138,7 @@ def proved(sources: Sources, folder: str) -> str:
     os.chmod(folder, 0o711)
     number = itertools.count(1)
     hear = lambda line: (it := PROVED.match(line)) and say(f"{it[1]}, {next(number)} of {len(sources.lines)}")
-    status, output = run([f"{kit_folder()}/bin/rt", "ci"], sources.top, folder, hear)
+    status, output = run([f"{kit_folder()}/bin/rt", "ci"], sources.top, folder, hear, **at_once())
     program = f"{sources.top}/crates/{sources.name}/out/{sources.name}"
     if status or not os.path.isfile(program):
         raise NotMade(f"it isn't proved; `rt ci` says:\n{output}")
