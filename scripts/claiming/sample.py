@@ -96,6 +96,7 @@ class Case(NamedTuple):
 
 POST = "crates/post/README.md"
 OFFICE = "crates/office/README.md"
+OFFICE_CODE = "crates/office/src/lib.rt"
 WRONG = "crates/post/wrong"
 README = "README.md"
 GLOSSARY = "docs/GLOSSARY.md"
@@ -136,6 +137,7 @@ CASES = (
     Case("a path of a crate that isn't there", POST, "`./check`", "`specs/Outbox.antt`", POST, "there is no specs/Outbox.antt"),
     Case("a file that the tutorial doesn't write", TUTORIAL, "run `tour/letter.rank`", "run `tour/mail.rank`", TUTORIAL, "there is no tour/mail.rank"),
     Case("a clause of another function in a document", THEOREMS, "`ok`", "`back`", THEOREMS, "`back` is no clause of `Inbox::accept`"),
+    Case("a module with the name of a library", OFFICE_CODE, "pub fn open", "mod post;\n\npub fn open", OFFICE_CODE, "post is the name of a library"),
     Case("a long line", README, "stands in", "stands in" + " as you see" * 5, README, "columns, more than 100"),
     Case("a long line in a fenced block", README, "[no link]", "[no link]" + " as you see" * 9, README, "columns, more than 120"),
     Case("a lemma that nothing uses", "crates/office/proofs/open/Answers.antt", "stays", "holds", OPENING, "nothing uses the lemma `stays`"),

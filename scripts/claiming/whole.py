@@ -5,7 +5,7 @@ from __future__ import annotations
 import os
 from typing import Iterator, Optional
 
-from . import carried, columns, links, mutants, pages, pairs, proof_map, tried
+from . import carried, columns, library_names, links, mutants, pages, pairs, proof_map, tried
 from .carried import Carried
 from .claims import Claims, claims_of
 from .code import items_of_code
@@ -121,6 +121,11 @@ class Whole:
         for crate in self.crates:
             yield from lemmas.faults(crate, named)
 
+    def faults_of_library_names(self) -> Iterator[Fault]:
+        named = dict(crate_lines(self.top))
+        for crate in self.crates:
+            yield from library_names.faults_of(self.sources[crate.name], crate.below.union(named[crate.name]))
+
     def faults_of_theorems(self) -> Iterator[Fault]:
         if self.carried:
             yield from self.carried.faults(self.text(carried.THEOREMS), self.mutants_at_claims())
@@ -148,7 +153,8 @@ class Whole:
     def faults(self) -> list[Fault]:
         found = [it for crate in self.crates for it in self.faults_of_crate(crate)]
         of_tried = tried.faults_of(self.top, self.crates)
-        return sorted({*self.faults_of_pages(), *found, *self.faults_of_lemmas(), *self.faults_of_documents(), *self.faults_of_theorems(), *of_tried})
+        of_names = {*self.faults_of_library_names(), *self.faults_of_lemmas()}
+        return sorted({*self.faults_of_pages(), *found, *of_names, *self.faults_of_documents(), *self.faults_of_theorems(), *of_tried})
 
     def notes(self) -> list[str]:
         """What is no fault, and a reader should know."""
