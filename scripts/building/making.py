@@ -34,7 +34,7 @@ exec -a {real} {real} "$@"
 PROVED = re.compile(r"rt: (\w+ (?:proved|NOT PROVED|is kept))")
 PREFIX = "ftmpi-made-by-"
 # Bytes. `rt ci` allows for two to three times what the check of a large crate has been seen to take
-# (4.4 GB at most), and so proves such crates one after another.
+# (4.9 GB at most), and so proves such crates one after another.
 A_CHECK = 5_000_000_000
 # PR_SET_PDEATHSIG: a process gets a signal when its parent ends
 PARENT_ENDS, LIBC = 1, ctypes.CDLL(None)
