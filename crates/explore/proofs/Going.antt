@@ -33,7 +33,7 @@ whole_only s b none shared chosen =
 
 -- so nothing is found yet, and all is to be searched
 pub on_begins : (mode : SendMode) → (program : ProgramValue) (n : ℕ) (s : SimValue) (b : Branch) → s.program ≡ program → length s.machines ≡ n → s.run ≡ [] → b.shared ≡ 0
-    → b.chosen ≡ None → (closes : Bool) → IsOn mode program n s (b ∷ []) [] (record { closes = closes; states = [] }) false
+    → b.chosen ≡ None → (closes : Bool) → IsOn mode program n s (b ∷ []) [] (record { closes = closes; states = []; parts = [] }) false
 on_begins mode program n s b same ranks none shared chosen closes =
     record {
       program_same = same;
@@ -43,7 +43,7 @@ on_begins mode program n s b same ranks none shared chosen closes =
           off_push mode program n s.run [] b (shared ∙ sym (ap length none))
           (s.run, subst (λ o. IsAfter mode program n s.run o s.run) (sym chosen) refl) (off_none mode program n s.run);
       search =
-          subst (λ (z : List Stem). Searches mode program n [] z (record { closes = closes; states = [] }) false) (sym (whole_only s b none shared chosen))
+          subst (λ (z : List Stem). Searches mode program n [] z (record { closes = closes; states = []; parts = [] }) false) (sym (whole_only s b none shared chosen))
           (searches_all mode program n closes);
     }
 

@@ -2,13 +2,10 @@
 -- behind the others.
 use Rattle.std.proofs.Common.{◌≡◌, ℕ, ◌<◌, ◌+◌, List, [], ◌∷◌, ◌++◌, Some, length, refl, sym, ap, ◌∙◌, subst, arith, slice_get, ◌⊎◌, inl, inr}
 use Rattle.std.specs.Prelude.{slice_index_or, option_map}
-use Rattle.std.proofs.lemmas.List.{append-nil, append_assoc, length-append, get_or_append_left}
+use Rattle.std.proofs.lemmas.List.{append_assoc, length-append, get_or_append_left}
 use Rattle.std.proofs.lemmas.Option.{get_or_from_slice_get, slice_get_within, slice_get-map}
-use Rattle.std.proofs.Math.Numerals.{add-one}
-use Rattle.crash_free.specs.LiveVariables.Live.{Table}
-use Rattle.crash_free.specs.Sim.{SimValue}
-use Rattle.crash_free.specs.Standing.{Rows, no_rows, behind, and_own, and_mail, and_rank, and_below}
-use Rattle.crash_free.proofs.Appending.{behind_nothing, behind_both, rank_in_parts}
+use Rattle.crash_free.specs.Standing.{Rows, no_rows, behind}
+use Rattle.crash_free.proofs.Appending.{behind_nothing, behind_both}
 use Rattle.explore.specs.Outcomes.{IsAmong}
 use Rattle.explore.specs.Parts.{joined, all_joined, AreBelow, AllAreBelow, KeepsParts, AreParts}
 
@@ -91,25 +88,6 @@ one_part_more old new is i part rows k there a =
           joined_push new is i ∙ ap (λ z. behind z (slice_index_or new i no_rows)) kept.whole
           ∙ ap (behind rows) (get_or_from_slice_get new i part no_rows there);
     }
-
--- no part is kept, and one of those that are comes behind them
-pub kept_part_more : (parts : List Rows) (is js : List ℕ) (i : ℕ) (part rows : Rows) → slice_get parts i ≡ Some part → js ≡ is ++ i ∷ [] → AreParts parts is rows
-    → AreParts parts js (behind rows part)
-kept_part_more parts is js i part rows there e a =
-    subst (λ z. AreParts parts z (behind rows part)) (sym e) (one_part_more parts parts is i part rows ([], sym (append-nil parts)) there a)
-
--- so come what a rank has of its own and what is left for it
-pub rank_more : (t : Table) (s : SimValue) (r : ℕ) (a b c : List Rows) (is js ks : List ℕ)
-    → ((rows : Rows) → AreParts a is rows → AreParts b js (behind rows (and_own t s no_rows r)))
-    → ((rows : Rows) → AreParts b js rows → AreParts c ks (behind rows (and_mail s no_rows r)))
-    → (rows : Rows) → AreParts a is rows → AreParts c ks (and_rank t s rows r)
-rank_more t s r a b c is js ks first second rows before =
-    subst (AreParts c ks) (sym (rank_in_parts t s rows r)) (second (behind rows (and_own t s no_rows r)) (first rows before))
-
--- so the parts of one rank more
-pub one_rank_more : (f : Rows → ℕ → Rows) (c : Rows) (r : ℕ) (parts : List Rows) (is : List ℕ) → AreParts parts is (f (and_below f c r) r)
-    → AreParts parts is (and_below f c (r + 1))
-one_rank_more f c r parts is a = subst (λ n. AreParts parts is (and_below f c n)) (sym (add-one r)) a
 
 -- the first part is all rows at first
 pub first_part : (old new : List Rows) (is js : List ℕ) (part rows : Rows) → is ≡ [] → part ≡ rows

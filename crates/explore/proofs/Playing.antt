@@ -1,18 +1,18 @@
 -- How far a run has gone on that leaves branches behind.
-use Rattle.std.proofs.Common.{◌≡◌, ℕ, List, [], ◌∷◌, length, inl, sym, subst}
+use Rattle.std.proofs.Common.{◌≡◌, ℕ, List, [], ◌∷◌, length, ◌⊎◌, inl, inr, sym, subst}
 use Rattle.crash_free.specs.Runs.{Passed}
 use Rattle.crash_free.specs.Sim.{SimValue}
 use Rattle.explore.specs.declared.branch.Branch.{Branch}
 use Rattle.explore.specs.declared.moves.Move.{Move}
 use Rattle.explore.specs.Counts.{NoneIsFixed}
 use Rattle.explore.specs.Making.{LeadsTo}
-use Rattle.explore.specs.Met.{Kept, AddsAtMost}
-use Rattle.explore.specs.Outcomes.{AreDistinct}
-use Rattle.explore.specs.Searching.{IsAlike, PlaysOn, Remembers}
+use Rattle.explore.specs.Met.{Kept, AddsAtMost, AreSameStates, HasMet, KeepsMet, StandsBy}
+use Rattle.explore.specs.Outcomes.{AreDistinct, IsAmong}
+use Rattle.explore.specs.Searching.{IsAlike, PlaysOn, Remembers, RestsOn}
 use Rattle.explore.specs.Small.{KeepsEnough}
 use Rattle.explore.specs.Stems.{GoesBehind, Stem, stems_of, GoOff}
 use Rattle.explore.proofs.Choosing.{IsStep, goes_by}
-use Rattle.explore.proofs.Meeting.{keeps_same}
+use Rattle.explore.proofs.Meeting.{keeps_more, keeps_same}
 use Rattle.explore.proofs.Searching.{Moves, plays_along, plays_nothing, remembers_along, plays_moves, remembers_moves}
 use Rattle.explore.proofs.Small.{keeps_nothing}
 use Rattle.explore.proofs.Sparing.{along_enough, moves_enough}
@@ -97,3 +97,34 @@ comes_moved mode s old mid s' pending new moves first before met met' come made 
 
     same : stems_of s'.run new ≡ stems_of mid.run new
     same = stems_behind mode s.program (length s.machines) mid.run s'.run new off_it behind
+
+-- what goes on by a move goes behind
+pub moved_behind : (mode : SendMode) → (s mid s' : SimValue) (old new : List Stem) (moves : List Move) (first : Move)
+    → Moves mode s mid s' old new moves first → GoesBehind mid.run s'.run
+moved_behind mode s mid s' old new moves first made =
+    let step : IsStep mid first.rank s' = goes_by mid s' first.rank first.choice made.now made.then (made.acts first (0, made.there)).1 made.allows in
+    (record { rank = first.rank; act = step.act } ∷ [], step.run)
+
+-- where as many states are met nothing more is remembered
+pub remembers_same : (mode : SendMode) → (s s' : SimValue) (pending : List Stem) (before met met' : Kept) → Remembers mode s s' pending before met
+    → AreSameStates met met' → Remembers mode s s' pending before met'
+remembers_same mode s s' pending before met met' remembers same =
+    record {
+      keeps = keeps_more before met met' remembers.keeps keeps;
+      each = λ m a. go m (remembers.each m (back m a));
+    }
+  where
+    keeps : KeepsMet met met'
+    keeps = record { same = same.closes; kept = λ x a. subst (λ z. IsAmong z x) (sym same.states) a }
+
+    back : (m : List Passed) → HasMet mode s met' m → HasMet mode s met m
+    back m a = (
+      a.0,
+      subst (λ z. IsAmong z a.0) same.states a.1,
+      subst (λ closes. StandsBy closes s.program (length s.machines) m a.0) same.closes a.2,
+      a.3,
+    )
+
+    go : (m : List Passed) → HasMet mode s before m ⊎ RestsOn mode s s' pending met m → HasMet mode s before m ⊎ RestsOn mode s s' pending met' m
+    go m (inl there) = inl there
+    go m (inr rests) = inr (λ found all more searched then. rests found all (keeps_more met met' all keeps more) searched then)

@@ -1,10 +1,15 @@
 //! Where runs stood that a search met.
-ghost use Rattle.std.specs.Prelude.{◌≡◌, ◌<◌, true, [], IfOk, IfSome, Ok, OnOk, Some, length, slice_get};
-ghost use Rattle.crash_free.specs.LiveVariables.Live.{IsTableOf, Table};
-ghost use Rattle.crash_free.specs.Standing.{Rows, no_rows, behind, and_own, and_mail, and_rank, rows_of, StandsAt};
-ghost use Rattle.explore.specs.Met.{AddsAtMost, StandsBy, WasMet, first_rows, state_rows};
+ghost use Rattle.std.specs.Prelude.{◌≡◌, ◌<◌, ◌≤◌, ◌++◌, ◌∷◌, ℕ, true, false, [], IfOk, IfSome, Ok, OnOk, Some, length, slice_get};
+ghost use Rattle.limits.specs.Limits.{most_ranks};
+ghost use Rattle.crash_free.specs.LiveVariables.Live.{IsTableOf};
+ghost use Rattle.crash_free.specs.Sim.{Simulates};
+ghost use Rattle.crash_free.specs.Standing.{Rows, no_rows, behind, and_own, and_mail};
+ghost use Rattle.explore.specs.LastState.{HasOwn, IsCurrent, Knows, KnowsTheSameBut, mail_in};
+ghost use Rattle.explore.specs.Met.{AddsAtMost, AreSameStates, StandsBy, WasMet, first_rows};
 ghost use Rattle.explore.specs.Parts.{KeepsParts, AreParts};
+ghost use Rattle.explore.specs.Settled.{AreOfProgram};
 
+use crate::last_state::LastState;
 use crate::parts::StandingParts;
 use crate::state::State;
 use crate::states::States;
@@ -42,7 +47,7 @@ impl Model for Met {
 
     ghost Value = { Kept };
 
-    ghost view = { λ m. record { closes = m.closes; states = all_joined m.parts m.states } };
+    ghost view = { λ m. record { closes = m.closes; states = all_joined m.parts m.states; parts = m.parts } };
 
     ghost invariant = { λ m. AllAreBelow (length m.parts) m.states };
 }
@@ -52,7 +57,7 @@ impl Met {
     /// counts as met where one stood before, however long it is, so that a state
     /// may come back in a run.
     pub fn new(alloc: Heap, most_states: u32, closes: bool) -> Met
-        ensures { result ≡ record { closes = closes; states = [] } }
+        ensures { result ≡ record { closes = closes; states = []; parts = [] } }
     {
         Met {
             alloc,
@@ -71,18 +76,29 @@ impl Met {
     }
 
     /// Whether a run stood where this one does, by the program's table of what
-    /// is unread; if not, this is kept, where there is room. An `Err` means out
-    /// of memory.
-    pub fn meets(&mut self, sim: &Sim<'_>, live: &Live) -> Result<bool, AllocError>
-        requires { IsTableOf sim.now.program live.now }
+    /// is unread; if not, this is kept, where there is room. It is the last state then. An `Err`
+    /// means out of memory.
+    pub fn meets(
+        &mut self,
+        sim: &Sim<'_>,
+        live: &Live,
+        last: &mut LastState,
+    ) -> Result<bool, AllocError>
+        requires table { IsTableOf sim.now.program live.now }
+        requires few { length sim.now.machines ≤ most_ranks }
+        requires programs { AreOfProgram sim.now }
+        requires knows { Knows live.now sim.now.program (length sim.now.machines) sim.now.run self.old.parts last.old }
         ensures yes { result ≡ Ok true → WasMet self.new sim.now }
-        ensures same { result ≡ Ok true → self.new ≡ self.old }
+        ensures same { result ≡ Ok true → AreSameStates self.old self.new }
         ensures adds { IfOk result (λ _. AddsAtMost self.old sim.now self.new) }
+        ensures knows { IfOk result (λ _. Knows live.now sim.now.program (length sim.now.machines) sim.now.run self.new.parts last.new) }
     {
+        last.catch_up(sim.acts());
         let state = state_of(
             self.alloc,
             &mut self.parts,
             &mut self.part,
+            last,
             sim,
             live,
             self.closes,
@@ -110,153 +126,190 @@ fn state_of(
     alloc: Heap,
     parts: &mut StandingParts,
     part: &mut Standing,
+    last: &mut LastState,
     sim: &Sim<'_>,
     live: &Live,
     closes: bool,
 ) -> Result<Option<State>, AllocError>
-    requires { IsTableOf sim.now.program live.now }
+    requires table { IsTableOf sim.now.program live.now }
+    requires few { length sim.now.machines ≤ most_ranks }
+    requires programs { AreOfProgram sim.now }
+    requires knows { Knows live.now sim.now.program (length sim.now.machines) sim.now.run parts.old last.old }
+    requires caught_up { last.old.shared ≡ length sim.now.run }
     ensures keeps { KeepsParts parts.old parts.new }
-    ensures parts { IfOk result (λ found. IfSome found (λ state. AreParts parts.new state (state_rows closes live.now sim.now))) }
-    ensures stands { StandsBy closes sim.now.program (length sim.now.machines) sim.now.run (state_rows closes live.now sim.now) }
+    ensures parts { IfOk result (λ found. IfSome found (λ state. (rows : Rows) × AreParts parts.new state rows
+        × StandsBy closes sim.now.program (length sim.now.machines) sim.now.run rows)) }
+    ensures knows { IfOk result (λ _. Knows live.now sim.now.program (length sim.now.machines) sim.now.run parts.new last.new) }
 {
-    write_first(sim, closes, part)?;
     let ranks = sim.ranks();
     let mut state = State::with_capacity(alloc, 1 + 2 * usize::from(ranks))?;
-    if !add_part(parts, part, &mut state)? {
+    if !add_first(parts, part, sim, closes, &mut state)? {
         return Ok(None);
     }
     let mut rank = 0;
     while rank < ranks {
-        if !add_rank(parts, part, sim, live, rank, &mut state)? {
+        if !add_rank(parts, part, last, sim, live, rank, &mut state)? {
             return Ok(None);
         }
         rank += 1;
     }
+    last.renew(sim.acts().len());
     Ok(Some(state))
 }
 
-// Writes how long the run is, in place of what was there, or nothing if the search closes over
-// states.
-fn write_first(sim: &Sim<'_>, closes: bool, part: &mut Standing) -> Result<(), AllocError>
-    ensures written { OnOk result (part.new ≡ first_rows closes sim.now.run) }
-    ensures stands { (t : Table) → IsTableOf sim.now.program t → StandsAt sim.now.program (length sim.now.machines) sim.now.run (rows_of t sim.now) }
-{
-    part.clear();
-    // its contract says what the parts of the ranks tell, with the length or without
-    sim.write_length(part)?;
-    if closes {
-        part.clear();
-    }
-    Ok(())
-}
-
-// Adds the parts of the rank to the state, and answers whether there is room for them.
-fn add_rank(
+// Adds how long the run is, or nothing if the search closes over states, and answers whether there
+// is room for it.
+fn add_first(
     parts: &mut StandingParts,
     part: &mut Standing,
     sim: &Sim<'_>,
-    live: &Live,
-    rank: u8,
+    closes: bool,
     state: &mut State,
 ) -> Result<bool, AllocError>
-    requires { rank < length sim.now.machines }
     ensures keeps { KeepsParts parts.old parts.new }
-    ensures adds { result ≡ Ok true → (rows : Rows) → AreParts parts.old state.old rows → AreParts parts.new state.new (and_rank live.now sim.now rows rank) }
+    ensures adds { result ≡ Ok true → (rows : Rows) → AreParts parts.old state.old rows → AreParts parts.new state.new (behind rows (first_rows closes sim.now.run)) }
 {
-    if !add_own(parts, part, sim, live, rank, state)? {
-        return Ok(false);
-    }
-    add_mail(parts, part, sim, rank, state)
-}
-
-// Adds what the rank has of its own, and answers whether there is room for it. Nothing is written
-// if it is what the rank of this number had in the last state, as of most ranks.
-fn add_own(
-    parts: &mut StandingParts,
-    part: &mut Standing,
-    sim: &Sim<'_>,
-    live: &Live,
-    rank: u8,
-    state: &mut State,
-) -> Result<bool, AllocError>
-    requires { rank < length sim.now.machines }
-    ensures keeps { KeepsParts parts.old parts.new }
-    ensures adds { result ≡ Ok true → (rows : Rows) → AreParts parts.old state.old rows → AreParts parts.new state.new (behind rows (and_own live.now sim.now no_rows rank)) }
-{
-    if let Some(place) = last_own(parts, state.len(), sim, live, rank) {
-        state.push(place)?;
-        return Ok(true);
-    }
     part.clear();
-    sim.write_own(live, rank, part)?;
-    add_part(parts, part, state)
-}
-
-// Where the part of this number in the last state stands, if the rank has the same of its own.
-fn last_own(
-    parts: &StandingParts,
-    number: usize,
-    sim: &Sim<'_>,
-    live: &Live,
-    rank: u8,
-) -> Option<u32>
-    requires { rank < length sim.now.machines }
-    ensures { IfSome result (λ place. slice_get parts.now place ≡ Some (and_own live.now sim.now no_rows rank)) }
-{
-    let (place, part) = parts.last_part(number)?;
-    if sim.has_own(live, rank, part) {
-        Some(place)
-    } else {
-        None
+    if !closes {
+        sim.write_length(part)?;
     }
-}
-
-// Adds the messages that the rank hasn't received, likewise.
-fn add_mail(
-    parts: &mut StandingParts,
-    part: &mut Standing,
-    sim: &Sim<'_>,
-    rank: u8,
-    state: &mut State,
-) -> Result<bool, AllocError>
-    requires { rank < length sim.now.machines }
-    ensures keeps { KeepsParts parts.old parts.new }
-    ensures adds { result ≡ Ok true → (rows : Rows) → AreParts parts.old state.old rows → AreParts parts.new state.new (behind rows (and_mail sim.now no_rows rank)) }
-{
-    if let Some(place) = last_mail(parts, state.len(), sim, rank) {
-        state.push(place)?;
-        return Ok(true);
-    }
-    part.clear();
-    sim.write_mail(rank, part)?;
-    add_part(parts, part, state)
-}
-
-// Where the part of this number in the last state stands, if the rank has the same messages left.
-fn last_mail(parts: &StandingParts, number: usize, sim: &Sim<'_>, rank: u8) -> Option<u32>
-    requires { rank < length sim.now.machines }
-    ensures { IfSome result (λ place. slice_get parts.now place ≡ Some (and_mail sim.now no_rows rank)) }
-{
-    let (place, part) = parts.last_part(number)?;
-    if sim.has_mail(rank, part) {
-        Some(place)
-    } else {
-        None
-    }
-}
-
-// Adds the part to the state, and answers whether there is room for it.
-fn add_part(
-    parts: &mut StandingParts,
-    part: &Standing,
-    state: &mut State,
-) -> Result<bool, AllocError>
-    ensures keeps { KeepsParts parts.old parts.new }
-    ensures adds { result ≡ Ok true → (rows : Rows) → AreParts parts.old state.old rows → AreParts parts.new state.new (behind rows part.now) }
-{
-    let Some(place) = parts.place_of(part, state.len())? else {
+    let Some(place) = parts.place_of(part)? else {
         return Ok(false);
     };
     state.push(place)?;
     Ok(true)
+}
+
+// Adds the parts of the rank to the state, and answers whether there is room for them. They are
+// those of the last state unless the rank is marked as changed.
+fn add_rank(
+    parts: &mut StandingParts,
+    part: &mut Standing,
+    last: &mut LastState,
+    sim: &Sim<'_>,
+    live: &Live,
+    rank: u8,
+    state: &mut State,
+) -> Result<bool, AllocError>
+    requires rank { rank < length sim.now.machines }
+    requires few { length sim.now.machines ≤ most_ranks }
+    requires programs { AreOfProgram sim.now }
+    requires stands { Simulates sim.now }
+    requires current { slice_get last.old.changed rank ≡ Some false
+        → IsCurrent live.now sim.now.program (length sim.now.machines) sim.now.run parts.old last.old rank }
+    ensures keeps { KeepsParts parts.old parts.new }
+    ensures adds { result ≡ Ok true → (own : Rows) × HasOwn live.now sim.now.program (length sim.now.machines) sim.now.run rank own
+        × ((rows : Rows) → AreParts parts.old state.old rows
+        → AreParts parts.new state.new (behind (behind rows own) (mail_in sim.now.run (length sim.now.machines) rank))) }
+    ensures current { result ≡ Ok true → IsCurrent live.now sim.now.program (length sim.now.machines) sim.now.run parts.new last.new rank }
+    ensures others { KnowsTheSameBut rank last.old last.new }
+    ensures unchanged { slice_get last.old.changed rank ≡ Some false → last.new ≡ last.old }
+{
+    if last.is_changed(rank) && !note_rank(parts, part, last, sim, live, rank)? {
+        return Ok(false);
+    }
+    add_places(last, rank, state)?;
+    Ok(true)
+}
+
+// Adds the places of the rank's parts to the state.
+fn add_places(last: &LastState, rank: u8, state: &mut State) -> Result<(), AllocError>
+    requires { rank < most_ranks }
+    ensures { OnOk result ((own mail : ℕ) → slice_get last.now.own rank ≡ Some own → slice_get last.now.mail rank ≡ Some mail
+        → state.new ≡ (state.old ++ own ∷ []) ++ mail ∷ []) }
+{
+    state.push(last.own[usize::from(rank)])?;
+    state.push(last.mail[usize::from(rank)])
+}
+
+// Keeps the parts of the rank, and answers whether there is room for them.
+fn note_rank(
+    parts: &mut StandingParts,
+    part: &mut Standing,
+    last: &mut LastState,
+    sim: &Sim<'_>,
+    live: &Live,
+    rank: u8,
+) -> Result<bool, AllocError>
+    requires rank { rank < length sim.now.machines }
+    requires few { length sim.now.machines ≤ most_ranks }
+    requires programs { AreOfProgram sim.now }
+    requires stands { Simulates sim.now }
+    ensures keeps { KeepsParts parts.old parts.new }
+    ensures current { result ≡ Ok true → IsCurrent live.now sim.now.program (length sim.now.machines) sim.now.run parts.new last.new rank }
+    ensures others { KnowsTheSameBut rank last.old last.new }
+{
+    let Some(own) = own_place(parts, part, last.own[usize::from(rank)], sim, live, rank)? else {
+        return Ok(false);
+    };
+    last.set_own(rank, own);
+    let Some(mail) = mail_place(parts, part, last.mail[usize::from(rank)], sim, rank)? else {
+        return Ok(false);
+    };
+    last.set_mail(rank, mail);
+    Ok(true)
+}
+
+// The place of what the rank has of its own, which is kept from now on. Nothing is written if it is
+// what stands at the first place.
+fn own_place(
+    parts: &mut StandingParts,
+    part: &mut Standing,
+    first: u32,
+    sim: &Sim<'_>,
+    live: &Live,
+    rank: u8,
+) -> Result<Option<u32>, AllocError>
+    requires { rank < length sim.now.machines }
+    ensures keeps { KeepsParts parts.old parts.new }
+    ensures there { IfOk result (λ found. IfSome found (λ place. slice_get parts.new place ≡ Some (and_own live.now sim.now no_rows rank))) }
+{
+    if has_own_at(parts, first, sim, live, rank) {
+        return Ok(Some(first));
+    }
+    part.clear();
+    sim.write_own(live, rank, part)?;
+    parts.place_of(part)
+}
+
+// Whether the part at this place is what the rank has of its own.
+fn has_own_at(parts: &StandingParts, place: u32, sim: &Sim<'_>, live: &Live, rank: u8) -> bool
+    requires { rank < length sim.now.machines }
+    ensures { result ≡ true → slice_get parts.now place ≡ Some (and_own live.now sim.now no_rows rank) }
+{
+    match parts.at(place) {
+        Some(part) => sim.has_own(live, rank, part),
+        None => false,
+    }
+}
+
+// The place of the messages that the rank hasn't received, likewise.
+fn mail_place(
+    parts: &mut StandingParts,
+    part: &mut Standing,
+    first: u32,
+    sim: &Sim<'_>,
+    rank: u8,
+) -> Result<Option<u32>, AllocError>
+    requires { rank < length sim.now.machines }
+    ensures keeps { KeepsParts parts.old parts.new }
+    ensures there { IfOk result (λ found. IfSome found (λ place. slice_get parts.new place ≡ Some (and_mail sim.now no_rows rank))) }
+{
+    if has_mail_at(parts, first, sim, rank) {
+        return Ok(Some(first));
+    }
+    part.clear();
+    sim.write_mail(rank, part)?;
+    parts.place_of(part)
+}
+
+// Whether the part at this place is the messages that the rank hasn't received.
+fn has_mail_at(parts: &StandingParts, place: u32, sim: &Sim<'_>, rank: u8) -> bool
+    requires { rank < length sim.now.machines }
+    ensures { result ≡ true → slice_get parts.now place ≡ Some (and_mail sim.now no_rows rank) }
+{
+    match parts.at(place) {
+        Some(part) => sim.has_mail(rank, part),
+        None => false,
+    }
 }

@@ -2,7 +2,9 @@
 ghost use Rattle.std.specs.Prelude.{◌≡◌, ◌≤◌, ◌<◌, ◌++◌, ◌∷◌, ℕ, true, false, [], IfOk, Ok, length};
 ghost use Rattle.limits.specs.Limits.{most_ranks};
 ghost use Rattle.explore.specs.Counting.{GoesBeyond};
+ghost use Rattle.crash_free.specs.LiveVariables.Live.{Table};
 ghost use Rattle.explore.specs.Found.{AreGrouped};
+ghost use Rattle.explore.specs.LastState.{Knows};
 ghost use Rattle.explore.specs.Searching.{IsOn, NeedsFewer};
 ghost use Rattle.explore.specs.Stems.{stems_of, whole};
 ghost use Rattle.explore.specs.Stops.{CanGoBack, KeepsStops};
@@ -12,6 +14,7 @@ use crate::bounds::Limits;
 use crate::branch::Branch;
 use crate::explored::Explored;
 use crate::found::Found;
+use crate::last_state::LastState;
 use crate::met::Met;
 use crate::outcome::outcome_of;
 use crate::path::Path;
@@ -36,6 +39,8 @@ pub struct Search<'p> {
     pending: Vec<Branch, Heap>,
     found: Found,
     met: Met,
+    /// What of the last state that was written still holds.
+    last: LastState,
     races: Races,
     /// Whether a run was cut off where a rank came to its limit of steps.
     out_of_steps: bool,
@@ -58,6 +63,7 @@ impl<'p> Search<'p> {
         ensures uncut { IfOk result (λ s. s.out_of_steps ≡ false) }
         ensures back { IfOk result (λ s. CanGoBack limits.steps s.path.sim s.path.left s.stops) }
         ensures closes { IfOk result (λ s. s.met.closes ≡ closes) }
+        ensures knows { IfOk result (λ s. (t : Table) → Knows t program.entry.now ranks s.path.sim.run s.met.parts s.last) }
     {
         let path = Path::new(alloc, program, ranks, limits.steps)?;
         let stops = Stops::new(alloc, &path)?;
@@ -73,6 +79,7 @@ impl<'p> Search<'p> {
             pending,
             found: Found::new(alloc),
             met: Met::new(alloc, limits.states, closes),
+            last: LastState::new(),
             races: Races::new(alloc),
             out_of_steps: false,
         })
@@ -90,6 +97,7 @@ impl<'p> Search<'p> {
         requires few { length self.old.path.sim.machines ≤ most_ranks }
         requires tables { AreTablesOf self.old.path.sim.program tables.now }
         requires back { (steps : ℕ) × CanGoBack steps self.old.path.sim self.old.path.left self.old.stops }
+        requires knows { Knows tables.now.live self.old.path.sim.program (length self.old.path.sim.machines) self.old.path.sim.run self.old.met.parts self.old.last }
         requires on { IsOn mode self.old.path.sim.program (length self.old.path.sim.machines) self.old.path.sim self.old.pending.items
             self.old.found self.old.met self.old.out_of_steps }
         ensures on { IfOk result (λ _. IsOn mode self.old.path.sim.program (length self.old.path.sim.machines) self.new.path.sim self.new.pending.items
@@ -98,6 +106,8 @@ impl<'p> Search<'p> {
         ensures closes { IfOk result (λ _. self.new.met.closes ≡ self.old.met.closes) }
         ensures enough { result ≡ Ok true → NeedsFewer mode self.old.path.sim.program (length self.old.path.sim.machines) self.old.path.sim.run
             self.old.pending.items self.new.path.sim.run self.new.pending.items }
+        ensures knows { IfOk result (λ _. Knows tables.now.live self.old.path.sim.program (length self.old.path.sim.machines) self.new.path.sim.run
+            self.new.met.parts self.new.last) }
         ensures back { IfOk result (λ _. KeepsStops self.old.path.sim self.old.path.left self.old.stops self.new.path.sim self.new.path.left self.new.stops) }
         ensures beyond { IfOk result (λ _. (steps : ℕ) → CanGoBack steps self.old.path.sim self.old.path.left self.old.stops
             → (self.old.out_of_steps ≡ true → GoesBeyond mode self.old.path.sim.program (length self.old.path.sim.machines) steps)
@@ -124,6 +134,7 @@ impl<'p> Search<'p> {
         requires few { length self.old.path.sim.machines ≤ most_ranks }
         requires tables { AreTablesOf self.old.path.sim.program tables.now }
         requires back { (steps : ℕ) × CanGoBack steps self.old.path.sim self.old.path.left self.old.stops }
+        requires knows { Knows tables.now.live self.old.path.sim.program (length self.old.path.sim.machines) self.old.path.sim.run self.old.met.parts self.old.last }
         requires on { IsOn mode self.old.path.sim.program (length self.old.path.sim.machines) self.old.path.sim (self.old.pending.items ++ branch ∷ [])
             self.old.found self.old.met self.old.out_of_steps }
         ensures on { IfOk result (λ _. IsOn mode self.old.path.sim.program (length self.old.path.sim.machines) self.new.path.sim self.new.pending.items
@@ -132,11 +143,14 @@ impl<'p> Search<'p> {
         ensures closes { IfOk result (λ _. self.new.met.closes ≡ self.old.met.closes) }
         ensures enough { IfOk result (λ _. NeedsFewer mode self.old.path.sim.program (length self.old.path.sim.machines) self.old.path.sim.run
             (self.old.pending.items ++ branch ∷ []) self.new.path.sim.run self.new.pending.items) }
+        ensures knows { IfOk result (λ _. Knows tables.now.live self.old.path.sim.program (length self.old.path.sim.machines) self.new.path.sim.run
+            self.new.met.parts self.new.last) }
         ensures back { IfOk result (λ _. KeepsStops self.old.path.sim self.old.path.left self.old.stops self.new.path.sim self.new.path.left self.new.stops) }
         ensures beyond { IfOk result (λ _. (steps : ℕ) → CanGoBack steps self.old.path.sim self.old.path.left self.old.stops
             → (self.old.out_of_steps ≡ true → GoesBeyond mode self.old.path.sim.program (length self.old.path.sim.machines) steps)
             → self.new.out_of_steps ≡ true → GoesBeyond mode self.old.path.sim.program (length self.old.path.sim.machines) steps) }
     {
+        self.last.go_back(self.path.sim.acts(), branch.shared);
         if !take_up(mode, &mut self.path, &mut self.stops, branch)? {
             self.out_of_steps = true;
             return Ok(true);
@@ -150,6 +164,7 @@ impl<'p> Search<'p> {
             &mut self.pending,
             tables,
             &mut self.met,
+            &mut self.last,
             &mut self.races,
         )? {
             PathEnd::Still => {
@@ -184,6 +199,7 @@ impl<'p> Search<'p> {
             pending: _,
             found,
             met,
+            last: _,
             races,
             out_of_steps,
         } = self;

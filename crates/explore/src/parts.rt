@@ -3,7 +3,7 @@ ghost use Rattle.std.specs.Prelude.{◌≡◌, ◌∷◌, ◌++◌, [], true, So
 ghost use Rattle.explore.specs.Parts.{KeepsParts};
 
 use crash_free::Standing;
-use limits::{Heap, MOST_RANKS};
+use limits::Heap;
 use std::alloc::AllocError;
 use std::collections::BTreeMap;
 use std::marker::Model;
@@ -11,9 +11,6 @@ use std::marker::Model;
 /// What a part takes beside its own numbers, in numbers of 8 bytes: two vectors
 /// and its entry in the map.
 const NUMBERS_BESIDE: usize = 12;
-
-/// How many parts a state has at most: the length of the run, and two of each rank.
-const MOST_PARTS: usize = 1 + 2 * MOST_RANKS;
 
 /// Parts of where all ranks stand, each kept once. In the states of a search few
 /// parts are distinct, as an act leaves what most ranks have as it was.
@@ -24,9 +21,6 @@ pub struct StandingParts {
     kept: Vec<Standing, Heap>,
     // where the last one of each hash is among them
     by_hash: BTreeMap<u64, u32, Heap>,
-    // where each part of the last state stands: most parts of the next one are the same, and are then
-    // neither written nor hashed
-    last: [u32; MOST_PARTS],
     // how many numbers, of 8 bytes each, may still be kept
     room: usize,
 }
@@ -49,44 +43,13 @@ impl StandingParts {
             alloc,
             kept: Vec::new(alloc),
             by_hash: BTreeMap::new(alloc),
-            last: [0; MOST_PARTS],
             room,
         }
     }
 
     /// The place of this part, from 0, which is kept from now on if it wasn't
-    /// before. It is the one of this number in its state, from 0. `None` if there
-    /// is no room for it. An `Err` means out of memory.
-    pub fn place_of(&mut self, part: &Standing, number: usize) -> Result<Option<u32>, AllocError>
-        ensures keeps { KeepsParts self.old self.new }
-        ensures there { IfOk result (λ found. IfSome found (λ place. slice_get self.new place ≡ Some part.now)) }
-    {
-        let found = self.find_or_keep(part)?;
-        if let Some(place) = found {
-            self.note_last(number, place);
-        }
-        Ok(found)
-    }
-
-    /// The part of this number in the last state and its place, as far as they are
-    /// known.
-    pub fn last_part(&self, number: usize) -> Option<(u32, &Standing)>
-        ensures { IfSome result (λ last. slice_get self.now last.0 ≡ Some last.1.now) }
-    {
-        let place = *self.last.get(number)?;
-        let part = self.kept.get(place as usize)?;
-        Some((place, part))
-    }
-
-    fn note_last(&mut self, number: usize, place: u32)
-        ensures { self.new ≡ self.old }
-    {
-        if number < MOST_PARTS {
-            self.last[number] = place;
-        }
-    }
-
-    fn find_or_keep(&mut self, part: &Standing) -> Result<Option<u32>, AllocError>
+    /// before. `None` if there is no room for it. An `Err` means out of memory.
+    pub fn place_of(&mut self, part: &Standing) -> Result<Option<u32>, AllocError>
         ensures keeps { KeepsParts self.old self.new }
         ensures there { IfOk result (λ found. IfSome found (λ place. slice_get self.new place ≡ Some part.now)) }
     {
@@ -95,6 +58,13 @@ impl StandingParts {
             Some(place) => Ok(Some(place)),
             None => self.keep(hash, part),
         }
+    }
+
+    /// The part at this place, if there is one.
+    pub fn at(&self, place: u32) -> Option<&Standing>
+        ensures { IfSome result (λ part. slice_get self.now place ≡ Some part.now) }
+    {
+        self.kept.get(place as usize)
     }
 
     // A place is exact. A part may have none here though it is kept, if another

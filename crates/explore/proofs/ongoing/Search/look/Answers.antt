@@ -1,4 +1,5 @@
-use Rattle.std.proofs.Common.{◌≡◌, true, false, length, refl, sym, subst, arith}
+use Rattle.std.proofs.Common.{◌≡◌, true, false, length, refl, sym, ap, ◌∙◌, subst, arith}
+use Rattle.std.proofs.lemmas.List.{length-reverse}
 use Rattle.std.specs.Prelude.{Ok}
 use Rattle.explore.specs.Stems.{stems_of}
 use Rattle.explore.specs.Tables.{AreTablesOf}
@@ -6,6 +7,7 @@ use Rattle.explore.proofs.Going.{fewer_cut, fewer_looked, off_now, on_cut, on_lo
 use Rattle.explore.proofs.Looking.{looks_cut, looks_ended, looks_met}
 use Rattle.explore.proofs.Stems.{last_run, last_within}
 use Rattle.explore.proofs.TakenUp.{beyond_back}
+use Rattle.explore.proofs.LastKnown.{knows_by, knows_of, knows_shared}
 use Rattle.explore.proofs.ongoing.Search.look.Goals as goal
 
 pub take_up-requires-clause-within : goal.take_up-requires-clause-within
@@ -150,3 +152,44 @@ take_up-requires-clause-is_run c = c.requires.on.is_run
 
 pub outcome_of-requires-clause-is_run : goal.outcome_of-requires-clause-is_run
 outcome_of-requires-clause-is_run c = c.in_ok-play.ensures.plays.runs c.in_ok-take_up.ensures.is_run
+
+pub go_back-requires : goal.go_back-requires
+go_back-requires c =
+    let within = c.requires.knows.within in
+    let long : length c.acts.result.now ≡ length c.args.self.now.path.sim.run = ap length c.acts.ensures ∙ length-reverse c.args.self.now.path.sim.run in
+    omega (arith, within, long)
+
+pub play-requires-clause-knows : goal.play-requires-clause-knows
+play-requires-clause-knows c =
+    let s = c.args.self.now.path.sim in
+    let long = c.in_ok-take_up.ensures.long in
+    let within = c.go_back.ensures.within in
+    knows_of c.args.tables.now.live s c.take_up.new.path.sim c.take_up.new.path.sim.run c.args.self.now.met.parts c.go_back.new.self
+    c.in_ok-take_up.ensures.alike
+    (knows_shared c.args.tables.now.live s.program (length s.machines) s.run c.take_up.new.path.sim.run c.args.self.now.met.parts c.go_back.new.self
+    (omega (arith, within, long)) (c.in_ok-take_up.ensures.shares c.go_back.new.self.shared within)
+    (c.go_back.ensures.knows c.args.tables.now.live s.program (length s.machines) s.run c.args.self.now.met.parts c.acts.ensures c.requires.knows))
+
+pub returns-then-not-branch-clause-knows : goal.returns-then-not-branch-clause-knows
+returns-then-not-branch-clause-knows c =
+    let s = c.args.self.now.path.sim in
+    let long = c.in_ok-take_up.ensures.long in
+    let within = c.go_back.ensures.within in
+    knows_shared c.args.tables.now.live s.program (length s.machines) s.run c.take_up.new.path.sim.run c.args.self.now.met.parts c.go_back.new.self
+    (omega (arith, within, long)) (c.in_ok-take_up.ensures.shares c.go_back.new.self.shared within)
+    (c.go_back.ensures.knows c.args.tables.now.live s.program (length s.machines) s.run c.args.self.now.met.parts c.acts.ensures c.requires.knows)
+
+pub returns-in_ok-note-in-Still-clause-knows : goal.returns-in_ok-note-in-Still-clause-knows
+returns-in_ok-note-in-Still-clause-knows c =
+    knows_by c.args.tables.now.live c.args.self.now.path.sim c.take_up.new.path.sim c.play.new.path.sim.run c.play.new.met.parts c.play.new.last
+    c.in_ok-take_up.ensures.alike c.in_ok-play.ensures.knows
+
+pub returns-in-Met-clause-knows : goal.returns-in-Met-clause-knows
+returns-in-Met-clause-knows c =
+    knows_by c.args.tables.now.live c.args.self.now.path.sim c.take_up.new.path.sim c.play.new.path.sim.run c.play.new.met.parts c.play.new.last
+    c.in_ok-take_up.ensures.alike c.in_ok-play.ensures.knows
+
+pub returns-in-Spent-clause-knows : goal.returns-in-Spent-clause-knows
+returns-in-Spent-clause-knows c =
+    knows_by c.args.tables.now.live c.args.self.now.path.sim c.take_up.new.path.sim c.play.new.path.sim.run c.play.new.met.parts c.play.new.last
+    c.in_ok-take_up.ensures.alike c.in_ok-play.ensures.knows

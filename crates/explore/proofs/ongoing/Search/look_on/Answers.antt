@@ -6,10 +6,11 @@ use Rattle.explore.specs.Stems.{stems_of}
 use Rattle.explore.specs.Tables.{AreTablesOf}
 use Rattle.explore.proofs.Among.{popped_some}
 use Rattle.explore.proofs.Going.{beyond_on, fewer_back, on_back, on_own}
+use Rattle.explore.proofs.LastKnown.{knows_by, knows_of}
 use Rattle.explore.proofs.ongoing.Search.look_on.Goals as goal
 
 pub loop-branch-init : goal.loop-branch-init
-loop-branch-init c = record { on = c.requires.on; enough = λ k e. (k, e, omega arith); closes = refl; back = λ steps can. can; beyond = λ steps can before now. before now }
+loop-branch-init c = record { on = c.requires.on; enough = λ k e. (k, e, omega arith); closes = refl; knows = c.requires.knows; back = λ steps can. can; beyond = λ steps can before now. before now }
 
 pub look-requires-clause-few : goal.look-requires-clause-few
 look-requires-clause-few c = (let on = c.loop-branch.invariant.on in omega (arith, c.requires.few, on.ranks))
@@ -51,6 +52,9 @@ loop-branch-preserved c =
           let less = fewer.2 in
           (fewer.0, fewer.1, omega (arith, before, less)));
       closes = c.in_ok-look.ensures.closes ∙ c.loop-branch.invariant.closes;
+      knows =
+          knows_by c.args.tables.now.live c.args.self.now.path.sim s c.look.new.self.path.sim.run c.look.new.self.met.parts c.look.new.self.last
+          (record { program = on.program_same; ranks = on.ranks }) c.in_ok-look.ensures.knows;
       back = λ steps can. c.in_ok-look.ensures.back steps (c.loop-branch.invariant.back steps can);
       beyond =
           λ steps can start.
@@ -71,3 +75,15 @@ returns-then-branch-clause-beyond c = λ steps can start.
 
 pub returns-then-branch-clause-closes : goal.returns-then-branch-clause-closes
 returns-then-branch-clause-closes c = c.in_ok-look.ensures.closes ∙ c.loop-branch.invariant.closes
+
+pub look-requires-clause-knows : goal.look-requires-clause-knows
+look-requires-clause-knows c =
+    let on = c.loop-branch.invariant.on in
+    knows_of c.args.tables.now.live c.args.self.now.path.sim c.loop-branch.self.path.sim c.loop-branch.self.path.sim.run c.loop-branch.self.met.parts
+    c.loop-branch.self.last (record { program = on.program_same; ranks = on.ranks }) c.loop-branch.invariant.knows
+
+pub returns-then-branch-clause-knows : goal.returns-then-branch-clause-knows
+returns-then-branch-clause-knows c =
+    let on = c.loop-branch.invariant.on in
+    knows_by c.args.tables.now.live c.args.self.now.path.sim c.loop-branch.self.path.sim c.look.new.self.path.sim.run c.look.new.self.met.parts
+    c.look.new.self.last (record { program = on.program_same; ranks = on.ranks }) c.in_ok-look.ensures.knows

@@ -1,5 +1,6 @@
 use Rattle.std.proofs.Common.{◌≡◌, ◌≤◌, ℕ, true, length}
 use Rattle.explore.specs.Counting.{GoesBeyond}
+use Rattle.explore.specs.LastState.{Knows}
 use Rattle.explore.specs.Searching.{IsOn}
 use Rattle.explore.specs.Small.{EnoughForAll}
 use Rattle.explore.specs.Stems.{stems_of}
@@ -16,6 +17,7 @@ invariant-loop-branch l = record {
       → (i : ℕ) × EnoughForAll l.mode l.initial.self.path.sim.program (length l.initial.self.path.sim.machines) i (stems_of l.self.path.sim.run l.self.pending.items)
       × (i ≤ k);
   closes : l.self.met.closes ≡ l.initial.self.met.closes;
+  knows : Knows l.tables.live l.initial.self.path.sim.program (length l.initial.self.path.sim.machines) l.self.path.sim.run l.self.met.parts l.self.last;
   back : KeepsStops l.initial.self.path.sim l.initial.self.path.left l.initial.self.stops l.self.path.sim l.self.path.left l.self.stops;
   beyond : (steps : ℕ) → CanGoBack steps l.initial.self.path.sim l.initial.self.path.left l.initial.self.stops
       → (l.initial.self.out_of_steps ≡ true → GoesBeyond l.mode l.initial.self.path.sim.program (length l.initial.self.path.sim.machines) steps)

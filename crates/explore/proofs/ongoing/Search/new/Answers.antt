@@ -10,3 +10,6 @@ returns-clause-on c = λ mode.
 
 pub returns-clause-back : goal.returns-clause-back
 returns-clause-back c = c.in_ok-stops.ensures c.args.limits.steps c.in_ok-path.ensures.counts
+
+pub returns-clause-knows : goal.returns-clause-knows
+returns-clause-knows c = λ t. c.new-5.ensures t c.args.program.now c.args.ranks c.in_ok-path.path.sim.run c.new-4.result.parts
