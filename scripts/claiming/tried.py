@@ -15,8 +15,10 @@ function. A folder that was never tried has '-' in both places.
 
 from __future__ import annotations
 
+import fcntl
 import hashlib
 import os
+from contextlib import contextmanager
 from dataclasses import dataclass, field
 from typing import Iterator
 
@@ -151,6 +153,44 @@ def stale(top: str, crates: list[Crate]) -> list[str]:
     """The folders whose mutants weren't tried over the sources as they are."""
     rows = {it.folder: it for it in rows_of(top)}
     return [it for it, edits in folders_of(top, crates).items() if it not in rows or rows[it].over != sum_of(top, it, edits)]
+
+
+@contextmanager
+def held(top: str) -> Iterator[None]:
+    """Keeps other runs, which note rows at the same time, from the data."""
+    with open(os.path.join(top, DATA), encoding="utf-8") as door:
+        fcntl.flock(door, fcntl.LOCK_EX)
+        yield
+
+
+def refused_by(top: str, crates: list[Crate]) -> set[str]:
+    """The mutants of these crates that were refused over the sources as they are."""
+    with held(top):
+        rows, found = {it.folder: it for it in rows_of(top)}, set()
+    for folder, edits in folders_of(top, crates).items():
+        row = rows.get(folder)
+        if row is not None and row.over == sum_of(top, folder, edits):
+            found |= set(map(name_of, edits)).difference(row.names["untried"], row.names["test"])
+    return found
+
+
+def note_refused(top: str, crates: list[Crate], commit: str, refused: set[str], answers: set[str]) -> None:
+    """Notes in the rows of these crates that these mutants were refused over the sources as they are,
+    those in answers at a written answer only. Where a row is of other sources, none was tried."""
+    with held(top):
+        rows, new = {it.folder: it for it in rows_of(top)}, []
+        for folder, edits in folders_of(top, crates).items():
+            over, names = sum_of(top, folder, edits), set(map(name_of, edits))
+            row = rows.get(folder)
+            if row is None or row.over != over:
+                row = Row(folder, commit, over)
+                row.names["untried"] = list(names)
+            row.commit, seen = commit, refused & names
+            for kind in KINDS:
+                row.names[kind] = [it for it in row.names[kind] if it not in seen]
+            row.names["answer"] += answers & names
+            new.append(row)
+        write_rows(top, new)
 
 
 def write_rows(top: str, rows: list[Row]) -> None:
