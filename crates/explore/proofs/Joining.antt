@@ -89,12 +89,6 @@ one_part_more old new is i part rows k there a =
           ∙ ap (behind rows) (get_or_from_slice_get new i part no_rows there);
     }
 
--- the first part is all rows at first
-pub first_part : (old new : List Rows) (is js : List ℕ) (part rows : Rows) → is ≡ [] → part ≡ rows
-    → ((c : Rows) → AreParts old is c → AreParts new js (behind c part)) → AreParts new js rows
-first_part old new is js part rows e f more =
-    subst (AreParts new js) f (more no_rows (subst (λ z. AreParts old z no_rows) (sym e) (record { below = tt; whole = refl })))
-
 -- where no state comes, what is kept stays, in more parts too
 pub states_stay : (old new new' : List Rows) (states states' : List (List ℕ)) (now : List Rows) → KeepsParts old new → new' ≡ new
     → AllAreBelow (length old) states → all_joined old states ≡ now → states' ≡ states

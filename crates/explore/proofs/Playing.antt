@@ -128,3 +128,15 @@ remembers_same mode s s' pending before met met' remembers same =
     go : (m : List Passed) → HasMet mode s before m ⊎ RestsOn mode s s' pending met m → HasMet mode s before m ⊎ RestsOn mode s s' pending met' m
     go m (inl there) = inl there
     go m (inr rests) = inr (λ found all more searched then. rests found all (keeps_more met met' all keeps more) searched then)
+
+-- by acts that are fixed, behind which is asked whether a run stood there
+pub comes_looked : (mode : SendMode) → (s : SimValue) (old : List Stem) (mid s' : SimValue) (pending : List Branch) (before met met' : Kept)
+    → HasCome mode s old mid pending before met → LeadsTo mode mid s' → AreSameStates met met' → HasCome mode s old s' pending before met'
+comes_looked mode s old mid s' pending before met met' come leads same =
+    let along = comes_along mode s old mid s' pending before met come leads in
+    record {
+      plays = along.plays;
+      off = along.off;
+      remembers = remembers_same mode s s' (stems_of s'.run pending) before met met' along.remembers same;
+      enough = along.enough;
+    }

@@ -1,7 +1,7 @@
 -- What is known of the last state that was written: where its parts stand among those that are kept,
 -- and which ranks may stand otherwise by now. An act changes what one rank has of its own, and what
 -- one or two have left to receive, so most parts of the next state are the same.
-use Rattle.std.specs.Prelude.{◌≡◌, ◌≢◌, ℕ, zero, suc, ◌<◌, ◌≤◌, ◌==◌, Bool, false, List, Some, length, slice_get}
+use Rattle.std.specs.Prelude.{◌≡◌, ◌≢◌, ℕ, zero, suc, ◌+◌, ◌*◌, ◌<◌, ◌≤◌, ◌==◌, Bool, false, List, Some, length, slice_get}
 use Rattle.rank_language.specs.Program.{ProgramValue}
 use Rattle.rank_machine.specs.Acts.{Act, sends, takes, hits, misses, prints}
 use Rattle.rank_machine.specs.Machine.{MachineValue, state_of}
@@ -35,7 +35,8 @@ pub record HasParts (t : Table) (program : ProgramValue) (n : ℕ) (C : List Pas
 -- so it is of rank r by the last state
 abbrev pub IsCurrent : Table → ProgramValue → ℕ → List Passed → List Rows → LastState → ℕ → Type 0
 IsCurrent t program n C parts last r =
-    (own : ℕ) × (slice_get last.own r ≡ Some own) × (mail : ℕ) × (slice_get last.mail r ≡ Some mail) × HasParts t program n C parts r own mail
+    (own : ℕ) × (slice_get last.places (2 * r) ≡ Some own) × (mail : ℕ) × (slice_get last.places (2 * r + 1) ≡ Some mail)
+    × HasParts t program n C parts r own mail
 
 -- Of each rank that isn't marked as changed the last state has the parts, as they are after so many first acts of the run.
 pub record Knows (t : Table) (program : ProgramValue) (n : ℕ) (C : List Passed) (parts : List Rows) (last : LastState) : Type 0 where
@@ -59,14 +60,12 @@ AreLaid t program n C first (suc r) rows =
 
 -- whichever rank isn't marked wasn't before, and the act changes nothing of it
 pub record Marks (old : LastState) (p : Passed) (new : LastState) : Type 0 where
-  pub own : new.own ≡ old.own
-  pub mail : new.mail ≡ old.mail
+  pub places : new.places ≡ old.places
   pub shared : new.shared ≡ old.shared
   pub rest : (r : ℕ) → slice_get new.changed r ≡ Some false → (slice_get old.changed r ≡ Some false) × (p.rank ≢ r) × (sends_to p.act r ≡ false)
 
 -- both know the same, but of this rank
 pub record KnowsTheSameBut (rank : ℕ) (old new : LastState) : Type 0 where
-  pub own : (r : ℕ) → r ≢ rank → slice_get new.own r ≡ slice_get old.own r
-  pub mail : (r : ℕ) → r ≢ rank → slice_get new.mail r ≡ slice_get old.mail r
+  pub places : (i : ℕ) → i ≢ 2 * rank → i ≢ 2 * rank + 1 → slice_get new.places i ≡ slice_get old.places i
   pub changed : new.changed ≡ old.changed
   pub shared : new.shared ≡ old.shared

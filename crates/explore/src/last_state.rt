@@ -1,18 +1,19 @@
 //! What is known of the last state that was written.
-ghost use Rattle.std.specs.Prelude.{◌≡◌, ◌≢◌, ◌<◌, ◌≤◌, ℕ, false, List, Some, length, reverse, slice_get};
+ghost use Rattle.std.specs.Prelude.{◌≡◌, ◌≢◌, ◌+◌, ◌*◌, ◌<◌, ◌≤◌, ℕ, false, List, Some, length, reverse, slice_get, take};
 ghost use Rattle.limits.specs.Limits.{most_ranks};
 
 use crash_free::{Act, Passed};
 use limits::MOST_RANKS;
 
+/// Each rank has two parts.
+const MOST_PLACES: usize = 2 * MOST_RANKS;
+
 /// Where the parts of each rank stand among those that are kept, by the last state that was written,
 /// and which ranks may stand otherwise by now. A mark too many costs time, and nothing else.
 #[derive(Clone, Copy)]
 pub struct LastState {
-    /// What each rank had of its own.
-    pub own: [u32; MOST_RANKS],
-    /// What it had left to receive.
-    pub mail: [u32; MOST_RANKS],
+    /// Rank by rank, what it had of its own, and what it had left to receive.
+    pub places: [u32; MOST_PLACES],
     /// The ranks that acted since, or to which something was sent.
     pub changed: [bool; MOST_RANKS],
     /// The rest stands as it did after so many first acts of the run.
@@ -31,8 +32,7 @@ impl LastState {
         ensures { (t : Table) (program : ProgramValue) (n : ℕ) (C : List runs.Passed) (parts : List standing.Rows) → Knows t program n C parts result }
     {
         LastState {
-            own: [0; MOST_RANKS],
-            mail: [0; MOST_RANKS],
+            places: [0; MOST_PLACES],
             changed: [true; MOST_RANKS],
             shared: 0,
         }
@@ -71,24 +71,45 @@ impl LastState {
         self.changed[usize::from(rank)]
     }
 
+    /// Where what the rank had of its own stands.
+    pub fn own(&self, rank: u8) -> u32
+        requires { rank < most_ranks }
+    {
+        self.places[2 * usize::from(rank)]
+    }
+
+    /// Where what it had left to receive stands.
+    pub fn mail(&self, rank: u8) -> u32
+        requires { rank < most_ranks }
+    {
+        self.places[2 * usize::from(rank) + 1]
+    }
+
     /// What the rank has of its own stands at this place.
     pub fn set_own(&mut self, rank: u8, place: u32)
         requires { rank < most_ranks }
-        ensures there { slice_get self.new.own rank ≡ Some place }
+        ensures there { slice_get self.new.places (2 * rank) ≡ Some place }
         ensures others { KnowsTheSameBut rank self.old self.new }
-        ensures mail { self.new.mail ≡ self.old.mail }
     {
-        self.own[usize::from(rank)] = place;
+        self.places[2 * usize::from(rank)] = place;
     }
 
     /// What it has left to receive stands at this place.
     pub fn set_mail(&mut self, rank: u8, place: u32)
         requires { rank < most_ranks }
-        ensures there { slice_get self.new.mail rank ≡ Some place }
+        ensures there { slice_get self.new.places (2 * rank + 1) ≡ Some place }
+        ensures own { slice_get self.new.places (2 * rank) ≡ slice_get self.old.places (2 * rank) }
         ensures others { KnowsTheSameBut rank self.old self.new }
-        ensures own { self.new.own ≡ self.old.own }
     {
-        self.mail[usize::from(rank)] = place;
+        self.places[2 * usize::from(rank) + 1] = place;
+    }
+
+    /// The places of the parts of the first ranks, so many.
+    pub fn first(&self, ranks: u8) -> &[u32]
+        requires { ranks ≤ most_ranks }
+        ensures { result.now ≡ take (2 * ranks) self.now.places }
+    {
+        &self.places[..2 * usize::from(ranks)]
     }
 
     // Marks the ranks whose parts the act changes.
@@ -103,8 +124,7 @@ impl LastState {
 
     // Marks this rank.
     fn mark_rank(&mut self, rank: u8)
-        ensures own { self.new.own ≡ self.old.own }
-        ensures mail { self.new.mail ≡ self.old.mail }
+        ensures places { self.new.places ≡ self.old.places }
         ensures shared { self.new.shared ≡ self.old.shared }
         ensures rest { (r : ℕ) → slice_get self.new.changed r ≡ Some false → (slice_get self.old.changed r ≡ Some false) × (rank ≢ r) }
     {
@@ -116,8 +136,7 @@ impl LastState {
 
     /// All is known: the last state was written where a run of so many acts ends.
     pub fn renew(&mut self, acts: usize)
-        ensures own { self.new.own ≡ self.old.own }
-        ensures mail { self.new.mail ≡ self.old.mail }
+        ensures places { self.new.places ≡ self.old.places }
         ensures shared { self.new.shared ≡ acts }
         ensures all { (r : ℕ) → r < most_ranks → slice_get self.new.changed r ≡ Some false }
     {

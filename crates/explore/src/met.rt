@@ -1,10 +1,10 @@
 //! Where runs stood that a search met.
-ghost use Rattle.std.specs.Prelude.{◌≡◌, ◌<◌, ◌≤◌, ◌++◌, ◌∷◌, ℕ, true, false, [], IfOk, IfSome, Ok, OnOk, Some, length, slice_get};
+ghost use Rattle.std.specs.Prelude.{◌≡◌, ◌<◌, ◌≤◌, true, false, [], IfOk, IfSome, Ok, Some, length, slice_get};
 ghost use Rattle.limits.specs.Limits.{most_ranks};
 ghost use Rattle.crash_free.specs.LiveVariables.Live.{IsTableOf};
 ghost use Rattle.crash_free.specs.Sim.{Simulates};
-ghost use Rattle.crash_free.specs.Standing.{Rows, no_rows, behind, and_own, and_mail};
-ghost use Rattle.explore.specs.LastState.{HasOwn, IsCurrent, Knows, KnowsTheSameBut, mail_in};
+ghost use Rattle.crash_free.specs.Standing.{Rows, no_rows, and_own, and_mail};
+ghost use Rattle.explore.specs.LastState.{IsCurrent, Knows, KnowsTheSameBut};
 ghost use Rattle.explore.specs.Met.{AddsAtMost, AreSameStates, StandsBy, WasMet, first_rows};
 ghost use Rattle.explore.specs.Parts.{KeepsParts, AreParts};
 ghost use Rattle.explore.specs.Settled.{AreOfProgram};
@@ -110,6 +110,40 @@ impl Met {
         self.states.meets(state, &mut self.parts)
     }
 
+    /// Whether a run stood where this one does, likewise, but nothing is kept of it. An `Err` means
+    /// out of memory.
+    pub fn has_met(
+        &mut self,
+        sim: &Sim<'_>,
+        live: &Live,
+        last: &mut LastState,
+    ) -> Result<bool, AllocError>
+        requires table { IsTableOf sim.now.program live.now }
+        requires few { length sim.now.machines ≤ most_ranks }
+        requires programs { AreOfProgram sim.now }
+        requires knows { Knows live.now sim.now.program (length sim.now.machines) sim.now.run self.old.parts last.old }
+        ensures yes { result ≡ Ok true → WasMet self.new sim.now }
+        ensures same { IfOk result (λ _. AreSameStates self.old self.new) }
+        ensures knows { IfOk result (λ _. Knows live.now sim.now.program (length sim.now.machines) sim.now.run self.new.parts last.new) }
+    {
+        last.catch_up(sim.acts());
+        self.parts.keep_new(false);
+        let state = state_of(
+            self.alloc,
+            &mut self.parts,
+            &mut self.part,
+            last,
+            sim,
+            live,
+            self.closes,
+        )?;
+        self.parts.keep_new(true);
+        let Some(state) = state else {
+            return Ok(false);
+        };
+        Ok(self.states.contains(&state))
+    }
+
     /// How many states are kept.
     pub fn states(&self) -> u32 {
         self.states.len()
@@ -142,54 +176,46 @@ fn state_of(
     ensures knows { IfOk result (λ _. Knows live.now sim.now.program (length sim.now.machines) sim.now.run parts.new last.new) }
 {
     let ranks = sim.ranks();
-    let mut state = State::with_capacity(alloc, 1 + 2 * usize::from(ranks))?;
-    if !add_first(parts, part, sim, closes, &mut state)? {
+    let Some(first) = first_place(parts, part, sim, closes)? else {
         return Ok(None);
-    }
+    };
     let mut rank = 0;
     while rank < ranks {
-        if !add_rank(parts, part, last, sim, live, rank, &mut state)? {
+        if !find_rank(parts, part, last, sim, live, rank)? {
             return Ok(None);
         }
         rank += 1;
     }
     last.renew(sim.acts().len());
-    Ok(Some(state))
+    Ok(Some(State::new(alloc, first, last.first(ranks))?))
 }
 
-// Adds how long the run is, or nothing if the search closes over states, and answers whether there
-// is room for it.
-fn add_first(
+// The place of how long the run is, or of nothing if the search closes over states.
+fn first_place(
     parts: &mut StandingParts,
     part: &mut Standing,
     sim: &Sim<'_>,
     closes: bool,
-    state: &mut State,
-) -> Result<bool, AllocError>
+) -> Result<Option<u32>, AllocError>
     ensures keeps { KeepsParts parts.old parts.new }
-    ensures adds { result ≡ Ok true → (rows : Rows) → AreParts parts.old state.old rows → AreParts parts.new state.new (behind rows (first_rows closes sim.now.run)) }
+    ensures there { IfOk result (λ found. IfSome found (λ place. slice_get parts.new place ≡ Some (first_rows closes sim.now.run))) }
 {
     part.clear();
     if !closes {
         sim.write_length(part)?;
     }
-    let Some(place) = parts.place_of(part)? else {
-        return Ok(false);
-    };
-    state.push(place)?;
-    Ok(true)
+    parts.place_of(part)
 }
 
-// Adds the parts of the rank to the state, and answers whether there is room for them. They are
-// those of the last state unless the rank is marked as changed.
-fn add_rank(
+// Has the last state know where the parts of the rank stand, and answers whether they have places.
+// They are the same unless the rank is marked as changed.
+fn find_rank(
     parts: &mut StandingParts,
     part: &mut Standing,
     last: &mut LastState,
     sim: &Sim<'_>,
     live: &Live,
     rank: u8,
-    state: &mut State,
 ) -> Result<bool, AllocError>
     requires rank { rank < length sim.now.machines }
     requires few { length sim.now.machines ≤ most_ranks }
@@ -198,31 +224,18 @@ fn add_rank(
     requires current { slice_get last.old.changed rank ≡ Some false
         → IsCurrent live.now sim.now.program (length sim.now.machines) sim.now.run parts.old last.old rank }
     ensures keeps { KeepsParts parts.old parts.new }
-    ensures adds { result ≡ Ok true → (own : Rows) × HasOwn live.now sim.now.program (length sim.now.machines) sim.now.run rank own
-        × ((rows : Rows) → AreParts parts.old state.old rows
-        → AreParts parts.new state.new (behind (behind rows own) (mail_in sim.now.run (length sim.now.machines) rank))) }
     ensures current { result ≡ Ok true → IsCurrent live.now sim.now.program (length sim.now.machines) sim.now.run parts.new last.new rank }
     ensures others { KnowsTheSameBut rank last.old last.new }
     ensures unchanged { slice_get last.old.changed rank ≡ Some false → last.new ≡ last.old }
 {
-    if last.is_changed(rank) && !note_rank(parts, part, last, sim, live, rank)? {
-        return Ok(false);
+    if last.is_changed(rank) {
+        note_rank(parts, part, last, sim, live, rank)
+    } else {
+        Ok(true)
     }
-    add_places(last, rank, state)?;
-    Ok(true)
 }
 
-// Adds the places of the rank's parts to the state.
-fn add_places(last: &LastState, rank: u8, state: &mut State) -> Result<(), AllocError>
-    requires { rank < most_ranks }
-    ensures { OnOk result ((own mail : ℕ) → slice_get last.now.own rank ≡ Some own → slice_get last.now.mail rank ≡ Some mail
-        → state.new ≡ (state.old ++ own ∷ []) ++ mail ∷ []) }
-{
-    state.push(last.own[usize::from(rank)])?;
-    state.push(last.mail[usize::from(rank)])
-}
-
-// Keeps the parts of the rank, and answers whether there is room for them.
+// Finds the places of the parts of the rank, and answers whether both have one.
 fn note_rank(
     parts: &mut StandingParts,
     part: &mut Standing,
@@ -239,11 +252,11 @@ fn note_rank(
     ensures current { result ≡ Ok true → IsCurrent live.now sim.now.program (length sim.now.machines) sim.now.run parts.new last.new rank }
     ensures others { KnowsTheSameBut rank last.old last.new }
 {
-    let Some(own) = own_place(parts, part, last.own[usize::from(rank)], sim, live, rank)? else {
+    let Some(own) = own_place(parts, part, last.own(rank), sim, live, rank)? else {
         return Ok(false);
     };
     last.set_own(rank, own);
-    let Some(mail) = mail_place(parts, part, last.mail[usize::from(rank)], sim, rank)? else {
+    let Some(mail) = mail_place(parts, part, last.mail(rank), sim, rank)? else {
         return Ok(false);
     };
     last.set_mail(rank, mail);

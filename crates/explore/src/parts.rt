@@ -23,6 +23,8 @@ pub struct StandingParts {
     by_hash: BTreeMap<u64, u32, Heap>,
     // how many numbers, of 8 bytes each, may still be kept
     room: usize,
+    // whether new parts are kept
+    keeps_new: bool,
 }
 
 impl Model for StandingParts {
@@ -44,11 +46,20 @@ impl StandingParts {
             kept: Vec::new(alloc),
             by_hash: BTreeMap::new(alloc),
             room,
+            keeps_new: true,
         }
     }
 
+    /// From now on new parts are kept, or are not.
+    pub fn keep_new(&mut self, keeps_new: bool)
+        ensures { self.new ≡ self.old }
+    {
+        self.keeps_new = keeps_new;
+    }
+
     /// The place of this part, from 0, which is kept from now on if it wasn't
-    /// before. `None` if there is no room for it. An `Err` means out of memory.
+    /// before. `None` if there is no room for it, or new parts aren't kept. An `Err` means out of
+    /// memory.
     pub fn place_of(&mut self, part: &Standing) -> Result<Option<u32>, AllocError>
         ensures keeps { KeepsParts self.old self.new }
         ensures there { IfOk result (λ found. IfSome found (λ place. slice_get self.new place ≡ Some part.now)) }
@@ -84,6 +95,9 @@ impl StandingParts {
         ensures keeps { KeepsParts self.old self.new }
         ensures there { IfOk result (λ found. IfSome found (λ place. slice_get self.new place ≡ Some part.now)) }
     {
+        if !self.keeps_new {
+            return Ok(None);
+        }
         let Ok(place) = u32::try_from(self.kept.len()) else {
             return Ok(None);
         };

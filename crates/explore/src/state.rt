@@ -1,5 +1,5 @@
 //! A state of a search, by its parts.
-ghost use Rattle.std.specs.Prelude.{◌≡◌, ◌∷◌, ◌++◌, [], true, IfOk, OnOk};
+ghost use Rattle.std.specs.Prelude.{◌≡◌, ◌∷◌, true, IfOk};
 
 use crash_free::Mix;
 use limits::Heap;
@@ -25,26 +25,14 @@ impl Model for State {
 }
 
 impl State {
-    /// No part yet, and memory for so many.
-    pub fn with_capacity(alloc: Heap, parts: usize) -> Result<State, AllocError>
-        ensures { IfOk result (λ state. state ≡ []) }
+    /// The part at the first place, and those at the others behind it. An `Err` means out of memory.
+    pub fn new(alloc: Heap, first: u32, others: &[u32]) -> Result<State, AllocError>
+        ensures { IfOk result (λ state. state ≡ first ∷ others.now) }
     {
-        Ok(State {
-            places: Vec::with_capacity(alloc, parts)?,
-        })
-    }
-
-    /// The part at this place comes behind the others.
-    pub fn push(&mut self, place: u32) -> Result<(), AllocError>
-        ensures { OnOk result (self.new ≡ self.old ++ place ∷ []) }
-    {
-        self.places.push(place)?;
-        Ok(())
-    }
-
-    /// How many parts it has so far.
-    pub fn len(&self) -> usize {
-        self.places.len()
+        let mut places = Vec::with_capacity(alloc, others.len() + 1)?;
+        places.push(first)?;
+        places.extend_from_slice(others)?;
+        Ok(State { places })
     }
 
     /// Whether both have the same parts.

@@ -62,6 +62,13 @@ impl States {
         Ok(false)
     }
 
+    /// Whether the state is among them. A yes is exact; a no may be wrong.
+    pub fn contains(&self, state: &State) -> bool
+        ensures { result ≡ true → IsAmong self.now state.now }
+    {
+        self.has(state.hash(), state)
+    }
+
     // A yes is exact; a no may be wrong, if two have one hash.
     fn has(&self, hash: u64, state: &State) -> bool
         ensures { result ≡ true → IsAmong self.now state.now }

@@ -8,7 +8,7 @@ use std::alloc::AllocError;
 
 /// How many acts are made between two stops, or more. A stop takes a copy of all
 /// machines, which costs as much as several acts, so there isn't one at each branch.
-const APART: usize = 12;
+const APART: usize = 2;
 
 /// How many stops are kept at most, besides the first.
 const MOST_STOPS: usize = 32;

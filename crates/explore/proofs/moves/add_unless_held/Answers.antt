@@ -1,6 +1,11 @@
+use Rattle.explore.proofs.AfterTheEnd.{adds_ended}
 use Rattle.explore.proofs.Moving.{adds_free, adds_held}
 use Rattle.explore.proofs.Still.{if_so}
 use Rattle.explore.proofs.moves.add_unless_held.Goals as goal
+
+pub returns-then-has_ended-clause-adds : goal.returns-then-has_ended-clause-adds
+returns-then-has_ended-clause-adds c = λ e.
+    adds_ended c.args.mode c.args.sim.now c.args.rank c.args.moves.now.items c.requires.stands (c.has_ended.ensures c.if-has_ended.true)
 
 pub returns-then-not-is_released-clause-adds : goal.returns-then-not-is_released-clause-adds
 returns-then-not-is_released-clause-adds c = λ e.

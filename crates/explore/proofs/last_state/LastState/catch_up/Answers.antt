@@ -11,7 +11,7 @@ loop-self-preserved c =
     record {
       knows =
           λ t program n C parts same known.
-          knows_on t program n C c.args.acts.now parts c.index-acts-self.result c.loop-self.self c.mark.new.self _ same at c.mark.ensures refl refl refl refl
+          knows_on t program n C c.args.acts.now parts c.index-acts-self.result c.loop-self.self c.mark.new.self _ same at c.mark.ensures refl refl refl
           (c.loop-self.invariant.knows t program n C parts same known);
       within = λ _. omega (arith, c.loop-self-test.true, shared);
     }

@@ -14,7 +14,7 @@ loop-self-preserved c =
       knows =
           λ t program n C parts same known.
           knows_back t program n C c.args.acts.now parts c.index-acts-self.result c.loop-self.self _ c.mark.new.self same
-          (subst (λ i. slice_get c.args.acts.now i ≡ Some c.index-acts-self.result) (sym shared) at) (omega (arith, c.loop-self-test.true, shared)) refl refl
+          (subst (λ i. slice_get c.args.acts.now i ≡ Some c.index-acts-self.result) (sym shared) at) (omega (arith, c.loop-self-test.true, shared)) refl
           refl (sym shared) c.mark.ensures (c.loop-self.invariant.knows t program n C parts same known);
       within = omega (arith, within, shared);
     }
