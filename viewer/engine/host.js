@@ -231,6 +231,9 @@
         pthread_attr_destroy: () => 0,
         pthread_attr_setguardsize: () => 0,
         pthread_attr_setstacksize: () => 0,
+        // (how many processors there are: one, as a page has no threads)
+        sysconf: () => 1n,
+        sched_getaffinity: () => this.fail(ENOSYS),
         sched_yield: () => 0,
         // (the one that is called wakes other threads)
         syscall: () => 0n,

@@ -1,8 +1,7 @@
 -- An audit that began with so many steps for each rank, and can't go on, has come to the outcome just where it is within reach.
-use Rattle.std.proofs.Common.{◌≡◌, ℕ, ℤ, ◌<◌, List, [], Some, length, slice_get, replicate}
+use Rattle.std.proofs.Common.{◌≡◌, ℕ, ℤ, ◌<◌, List, [], Some, length, slice_get}
 use Rattle.std.proofs.Common.{refl, sym, ap, subst, ◌∙◌, arith}
 use Rattle.std.specs.Prelude.{Result, Ok, Err, IsSomeAnd, IfErr}
-use Rattle.std.proofs.lemmas.List.{length-replicate}
 use Rattle.std.proofs.lemmas.Option.{slice_get_within}
 use Rattle.rank_language.specs.Program.{ProgramValue}
 use Rattle.crash_free.specs.Runs.{history}
@@ -20,14 +19,14 @@ use Rattle.audit.specs.Audits.{GoesTo, AreReached}
 use Rattle.audit.specs.Reachable.{IsWithinSteps, IsReachable}
 use Rattle.audit.specs.Found.{IsFound}
 use Rattle.audit.specs.Trace.{TraceValue}
+use Rattle.audit.specs.Ahead.{AheadValue, IsAhead, ProgressValue}
 use Rattle.audit.specs.Playing.{IsWithin, HasLeft, PlayAll, AreStuck}
 use Rattle.audit.proofs.Counting.{row_few}
 use Rattle.audit.proofs.Reaching.{some_there, comes_to}
-use Rattle.audit.proofs.Traces.{replicate_each}
 use Rattle.audit.proofs.Outcomes.{come}
 
 -- a rank at the beginning has made no step
-begun_left : (s : SimValue) (r total : ℕ) → AreBegun s.program (length s.machines) s.machines → s.run ≡ [] → r < length s.machines → HasLeft s r total total
+pub begun_left : (s : SimValue) (r total : ℕ) → AreBegun s.program (length s.machines) s.machines → s.run ≡ [] → r < length s.machines → HasLeft s r total total
 begun_left s r total begun run low =
     let m = there_is s.machines r low in
     let first = begun_there s.program (length s.machines) r m.0 (begun r m.0 m.1) in
@@ -64,29 +63,24 @@ too_long program n steps o many reach =
     let more = many.3 in
     omega (arith, clocked, few, long, more)
 
--- An audit that began with so many steps for each rank, and can't go on, has come to each outcome that is within reach.
-pub reaches : (o : OutcomeValue) (first s : SimValue) (traces : List TraceValue) (program : ProgramValue) (n steps : ℕ) (left left' : List ℕ)
-    → first.program ≡ program → length first.machines ≡ n → AreBegun program n first.machines → first.run ≡ [] → GoesTo first s traces
-    → PlayAll o left left' first s → left ≡ replicate n steps → length left' ≡ n → AreStuck o left' s → IsReachable program n o steps → AreReached s o
-reaches o first s traces program n steps left left' same size begun run goes plays each width stuck reach =
-    let size_now : length s.machines ≡ n = goes.size ∙ size in
-    let program_now : s.program ≡ program = goes.program ∙ same in
-    let begins : AreBegun first.program (length first.machines) first.machines = rw (same, size) begun in
-    comes_to o s left' steps goes.keeps.simulates (plays.within (within_none o first run)) (width ∙ sym size_now)
+-- An audit that began with a run within the outcome, and can't go on, has come to each outcome that is within reach.
+pub reaches : (o : OutcomeValue) (a : AheadValue) (p : ProgressValue) (s : SimValue) (traces : List TraceValue) (left : List ℕ) → IsAhead a p → IsWithin o p.sim
+    → GoesTo p.sim s traces → PlayAll o p.left left p.sim s → length left ≡ length p.left → AreStuck o left s → IsReachable a.program a.ranks o a.steps → AreReached s o
+reaches o a p s traces left ahead within goes plays width stuck reach =
+    let size_now : length s.machines ≡ a.ranks = goes.size ∙ ahead.size in
+    let program_now : s.program ≡ a.program = goes.program ∙ ahead.program in
+    comes_to o s left a.steps goes.keeps.simulates (plays.within within) (width ∙ ahead.progress.left ∙ sym goes.size)
     (λ r k there.
-    let low = slice_get_within left' r k there in
-    let wide : length left ≡ n = ap length each ∙ length-replicate n steps in
-    let at = there_is left r (omega (arith, low, width, wide)) in
-    let all : at.0 ≡ steps = replicate_each n steps r at.0 (ap (λ ks. slice_get ks r) (sym each) ∙ at.1) in
-    plays.each r steps steps k (at.1 ∙ ap Some all) there (begun_left first r steps begins run (omega (arith, low, width, size))))
+    let low = slice_get_within left r k there in
+    let at = there_is p.left r (omega (arith, low, width)) in
+    plays.each r a.steps at.0 k at.1 there (ahead.counts r at.0 at.1))
     stuck (rw (program_now, size_now) reach)
 
 -- What an audit came to is the outcome, and it came to it within its steps.
-pub found : (o : OutcomeValue) (first s : SimValue) (traces : List TraceValue) (sorted : List (List (ℕ × ℤ))) (program : ProgramValue) (n steps : ℕ)
-    (left left' : List ℕ) → first.program ≡ program → length first.machines ≡ n → AreBegun program n first.machines → first.run ≡ [] → GoesTo first s traces
-    → PlayAll o left left' first s → left ≡ replicate n steps → length left' ≡ n → length o.rows ≡ n → length o.ends ≡ n → IsSorted n o.lines sorted
-    → AreReached s o → IsFound program n o steps s
-found o first s traces sorted program n steps left left' same size begun run goes plays each width rows ends lines reached = record {
+pub found : (o : OutcomeValue) (a : AheadValue) (p : ProgressValue) (s : SimValue) (traces : List TraceValue) (sorted : List (List (ℕ × ℤ))) (left : List ℕ)
+    → IsAhead a p → GoesTo p.sim s traces → PlayAll o p.left left p.sim s → length left ≡ length p.left → length o.rows ≡ a.ranks → length o.ends ≡ a.ranks
+    → IsSorted a.ranks o.lines sorted → AreReached s o → IsFound a.program a.ranks o a.steps s
+found o a p s traces sorted left ahead goes plays width rows ends lines reached = record {
   program = program_now;
   size = size_now;
   outcome = rw (← program_now, ← size_now) (come s traces sorted o goes.keeps (rows ∙ sym size_now) (ends ∙ sym size_now)
@@ -95,21 +89,19 @@ found o first s traces sorted program n steps left left' same size begun run goe
   within = rw (← program_now, ← size_now) within;
 }
   where
-    size_now : length s.machines ≡ n
-    size_now = goes.size ∙ size
+    size_now : length s.machines ≡ a.ranks
+    size_now = goes.size ∙ ahead.size
 
-    program_now : s.program ≡ program
-    program_now = goes.program ∙ same
+    program_now : s.program ≡ a.program
+    program_now = goes.program ∙ ahead.program
 
-    within : (r : ℕ) (e : End) → slice_get o.ends r ≡ Some e → IsWithinSteps s.program (length s.machines) steps s.run r e
+    within : (r : ℕ) (e : End) → slice_get o.ends r ≡ Some e → IsWithinSteps s.program (length s.machines) a.steps s.run r e
     within r e there =
         let low = slice_get_within o.ends r e there in
-        let wide : length left ≡ n = ap length each ∙ length-replicate n steps in
-        let begins : AreBegun first.program (length first.machines) first.machines = rw (same, size) begun in
-        let at = there_is left r (omega (arith, low, ends, wide)) in
-        let all : at.0 ≡ steps = replicate_each n steps r at.0 (ap (λ ks. slice_get ks r) (sym each) ∙ at.1) in
-        let now = there_is left' r (omega (arith, low, ends, width)) in
-        let has = plays.each r steps steps now.0 (at.1 ∙ ap Some all) now.1 (begun_left first r steps begins run (omega (arith, low, ends, size))) in
+        let wide : length p.left ≡ a.ranks = ahead.progress.left ∙ ahead.size in
+        let at = there_is p.left r (omega (arith, low, ends, wide)) in
+        let now = there_is left r (omega (arith, low, ends, wide, width)) in
+        let has = plays.each r a.steps at.0 now.0 at.1 now.1 (ahead.counts r at.0 at.1) in
         let sum = has.sum in
         let m = some_there (slice_get s.machines r) (λ m. Advances has.made (first_machine s.program (length s.machines) r) (history s.run r) m) has.advances in
         let end = (reached r (omega (arith, low, ends, size_now))).end e there in

@@ -31,6 +31,7 @@ use Rattle.audit.specs.Outcome.{OutcomeValue, lines_of}
 use Rattle.audit.specs.Rows.{row, event_at, expand}
 use Rattle.audit.specs.Audits.{IsSendTo, Suits, Repeats}
 use Rattle.audit.specs.Following.{IsSendAct}
+use Rattle.audit.specs.Ahead.{Spends}
 use Rattle.audit.specs.Playing.{IsWithin, IsNextEvent, IsNextLine, Plays}
 use Rattle.audit.proofs.Rows.{row-other, row_of_effect, row_one_more, event_prints_none}
 use Rattle.audit.proofs.Steps.{Did, repeated}
@@ -69,9 +70,9 @@ within_after o s r m' act keeps within = record {
         subst (λ ls. IsBeginning ls (lines_of q o.lines)) (sym (printed-other s.run (record { rank = r; act = act }) q apart)) (within.lines q)
 
 -- an act is one step of its rank
-plays_act : (o : OutcomeValue) (s s' : SimValue) (r : ℕ) (w : Want) (c : Choice) → (a : Acted s r w c s') → KeepsTo o s r a.act
-    → length (history s.run r) + 1 ≤ greatest_clock → (k : ℕ) → Plays o r (k + 1) k s s'
-plays_act o s s' r w c a keeps clocked k = subst (λ z. Plays o r (k + 1) k s z) (sym a.now) played
+pub spends_act : (s s' : SimValue) (r : ℕ) (w : Want) (c : Choice) → (a : Acted s r w c s') → length (history s.run r) + 1 ≤ greatest_clock → (k : ℕ)
+    → Spends r (k + 1) k s s'
+spends_act s s' r w c a clocked k = subst (λ z. Spends r (k + 1) k s z) (sym a.now) spent
   where
     p : Passed
     p = record { rank = r; act = a.act }
@@ -82,9 +83,8 @@ plays_act o s s' r w c a keeps clocked k = subst (λ z. Plays o r (k + 1) k s z)
     width : length (slice_set s.machines r a.after) ≡ length s.machines
     width = length-set s.machines r a.after
 
-    played : Plays o r (k + 1) k s (with_act s r a.after a.act)
-    played = record {
-      within = within_after o s r a.after a.act keeps;
+    spent : Spends r (k + 1) k s (with_act s r a.after a.act)
+    spent = record {
       own = λ total has.
           let sum = has.sum in
           let first = first_machine s.program (length s.machines) r in
@@ -107,6 +107,17 @@ plays_act o s s' r w c a keeps clocked k = subst (λ z. Plays o r (k + 1) k s z)
             rw (set_apart s.machines r a.after q apart, width, history-other s.run p q (λ e. apart (sym e))) has.advances;
         clocked = rw (history-other s.run p q (λ e. apart (sym e))) has.clocked;
       };
+    }
+
+-- by which it keeps to an outcome that has the act next
+plays_act : (o : OutcomeValue) (s s' : SimValue) (r : ℕ) (w : Want) (c : Choice) → (a : Acted s r w c s') → KeepsTo o s r a.act
+    → length (history s.run r) + 1 ≤ greatest_clock → (k : ℕ) → Plays o r (k + 1) k s s'
+plays_act o s s' r w c a keeps clocked k =
+    let spends = spends_act s s' r w c a clocked k in
+    record {
+      within = subst (λ z. IsWithin o s → IsWithin o z) (sym a.now) (within_after o s r a.after a.act keeps);
+      own = spends.own;
+      others = spends.others;
     }
 
 -- a stride is as many steps
@@ -243,7 +254,7 @@ plays_print s s' r value wanted allows clocked o next k =
     plays_act o s s' r (want.Print value) choice.Next a (subst (λ x. KeepsTo o s r x) (sym is) (keeps_print o s r value next)) clocked k
 
 -- what suits a step of its own is no event
-suits_apart : (w : Want) (k : Kind) → Suits w k → w ≢ want.Internal
+pub suits_apart : (w : Want) (k : Kind) → Suits w k → w ≢ want.Internal
 suits_apart w k suits e = subst (λ v. Suits v k) e suits
 
 -- a reception, a hit or a miss that is made

@@ -8,10 +8,12 @@ ghost use Rattle.audit.specs.Counts.{AreCounted};
 ghost use Rattle.audit.specs.Reachable.{IsReachable};
 ghost use Rattle.audit.specs.Found.{IsFound};
 
+use crate::ahead::Ahead;
+use crate::auditor::Goal;
 use crate::auditor::stretching::{InTurn, Stretching};
-use crate::auditor::{Auditor, Goal};
 use crate::fault::AuditFault;
 use crate::outcome::Outcome;
+use crate::progress::Progress;
 use crate::{counts, lines};
 use crash_free::Sim;
 use limits::Heap;
@@ -66,24 +68,22 @@ pub fn find_run<'p>(
     ensures ok { IfOk result (λ run. IsFound program.entry.now ranks outcome.now steps run) }
     ensures err { IfErr result (λ fault. IsReachable program.entry.now ranks outcome.now steps → fault ≡ AuditFault.Memory) }
 {
-    find_with(&InTurn, alloc, program, ranks, outcome, steps)
+    find_with(&InTurn, Ahead::none(program, ranks, steps), alloc, outcome)
 }
 
-/// The same, with long stretches of steps of the ranks' own left to `stretching`.
+/// The same, behind a run that was made ahead, and with long stretches of steps of the
+/// ranks' own left to `stretching`.
 pub(crate) fn find_with<'p, S: Stretching>(
     stretching: &S,
+    ahead: Ahead<'p>,
     alloc: Heap,
-    program: &'p Program,
-    ranks: u8,
     outcome: &Outcome,
-    steps: u32,
 ) -> Result<Sim<'p>, AuditFault>
     requires can { S.can stretching.now }
-    requires some { 1 ≤ ranks }
-    requires few { ranks ≤ most_ranks }
-    ensures ok { IfOk result (λ run. IsFound program.entry.now ranks outcome.now steps run) }
-    ensures err { IfErr result (λ fault. IsReachable program.entry.now ranks outcome.now steps → fault ≡ AuditFault.Memory) }
+    ensures ok { IfOk result (λ run. IsFound ahead.entry.program ahead.entry.ranks outcome.now ahead.entry.steps run) }
+    ensures err { IfErr result (λ fault. IsReachable ahead.entry.program ahead.entry.ranks outcome.now ahead.entry.steps → fault ≡ AuditFault.Memory) }
 {
+    let ranks = ahead.ranks();
     if outcome.rows_count() != usize::from(ranks) {
         return Err(AuditFault::RowLeft);
     }
@@ -101,30 +101,29 @@ pub(crate) fn find_with<'p, S: Stretching>(
         counts: counts.as_slice(),
         lines: lines.as_slice(),
     };
-    come_to(stretching, alloc, program, ranks, &goal, steps)
+    come_to(stretching, ahead, alloc, &goal)
 }
 
 /// The same, if the outcome has a row, its lines and an end of each rank.
 fn come_to<'p, S: Stretching>(
     stretching: &S,
+    ahead: Ahead<'p>,
     alloc: Heap,
-    program: &'p Program,
-    ranks: u8,
     goal: &Goal<'_>,
-    steps: u32,
 ) -> Result<Sim<'p>, AuditFault>
     requires can { S.can stretching.now }
-    requires some { 1 ≤ ranks }
-    requires few { ranks ≤ most_ranks }
-    requires rows { length goal.now.outcome.now.rows ≡ ranks }
-    requires ends { length goal.now.outcome.now.ends ≡ ranks }
-    requires sorted { IsSorted ranks goal.now.outcome.now.lines goal.now.lines.now }
+    requires rows { length goal.now.outcome.now.rows ≡ ahead.ranks }
+    requires ends { length goal.now.outcome.now.ends ≡ ahead.ranks }
+    requires sorted { IsSorted ahead.ranks goal.now.outcome.now.lines goal.now.lines.now }
     requires counted { AreCounted goal.now.outcome.now.rows goal.now.counts.now }
-    ensures ok { IfOk result (λ run. IsFound program.entry.now ranks goal.now.outcome.now steps run) }
-    ensures err { IfErr result (λ fault. IsReachable program.entry.now ranks goal.now.outcome.now steps → fault ≡ AuditFault.Memory) }
+    ensures ok { IfOk result (λ run. IsFound ahead.entry.program ahead.entry.ranks goal.now.outcome.now ahead.entry.steps run) }
+    ensures err { IfErr result (λ fault. IsReachable ahead.entry.program ahead.entry.ranks goal.now.outcome.now ahead.entry.steps → fault ≡ AuditFault.Memory) }
 {
-    let mut left = vec![in alloc; steps; usize::from(ranks)]?;
-    let mut auditor = Auditor::new(alloc, program, ranks)?;
+    let Progress {
+        mut auditor,
+        mut left,
+        ..
+    } = ahead.progress_to(alloc, goal)?;
     auditor.play(stretching, goal, &mut left)?;
     auditor.verdict(goal, left.as_slice())?;
     Ok(auditor.into_run())

@@ -1,8 +1,9 @@
 //! How many acts the stored events of a rank stand for.
-ghost use Rattle.std.specs.Prelude.{◌≡◌, ◌<◌, ◌-◌, length, slice_get, IfSome, IfNone, IfOk};
+ghost use Rattle.std.specs.Prelude.{◌≡◌, ◌<◌, ◌-◌, length, slice_get, true, IfSome, IfNone, IfOk};
 ghost use Rattle.limits.specs.Limits.{greatest_clock};
 ghost use Rattle.event_logger.specs.Sequential.Event.{count_of};
 ghost use Rattle.event_logger.specs.Sequential.Misses.{parts_of};
+ghost use Rattle.crash_free.specs.Parts.{IsBeginning};
 ghost use Rattle.audit.specs.Rows.{expand};
 ghost use Rattle.audit.specs.Counts.{ends_from, AreCounted, AreTooMany, IsPlace};
 
@@ -59,12 +60,43 @@ impl ActCounts {
         part(event, event.count(), self.ends[place] - done - 1)
     }
 
+    /// Whether the events of the first acts, one for each, are these.
+    pub fn begin_with(&self, events: &[Event], others: &[Event]) -> bool
+        requires { self.now ≡ ends_from 0 events.now }
+        ensures { result ≡ true → IsBeginning others.now (expand events.now) }
+    {
+        let mut at = 0;
+        while at < others.len() {
+            let Ok(done) = u32::try_from(at) else {
+                return false;
+            };
+            let Some(event) = self.event_after(events, done) else {
+                return false;
+            };
+            if !is_same(event, others[at]) {
+                return false;
+            }
+            at += 1;
+        }
+        true
+    }
+
     /// The place of the event that stands for the act after so many.
     fn place_after(&self, events: &[Event], done: u32) -> usize
         requires { self.now ≡ ends_from 0 events.now }
         ensures { IsPlace events.now done result }
     {
-        match self.ends.as_slice().binary_search(&done) {
+        let ends = self.ends.as_slice();
+        // mostly no event before stands for several acts
+        if done > 0 {
+            let last = done as usize - 1;
+            if last < ends.len() {
+                if ends[last] == done {
+                    return last + 1;
+                }
+            }
+        }
+        match ends.binary_search(&done) {
             Ok(last) => last + 1,
             Err(next) => next,
         }
@@ -98,4 +130,10 @@ pub fn count(alloc: Heap, outcome: &Outcome) -> Result<Option<Vec<ActCounts, Hea
         all.push(counts)?;
     }
     Ok(Some(all))
+}
+
+fn is_same(event: Event, other: Event) -> bool
+    ensures { result ≡ true → event ≡ other }
+{
+    event == other
 }

@@ -5,6 +5,6 @@ mod fault;
 mod outcome;
 mod stalled;
 
-pub use confirming::{Final, confirm, confirmed_run, confirmed_run_on};
+pub use confirming::{Final, confirm, confirmed_run, confirmed_run_behind};
 pub use fault::FinalFault;
 pub use outcome::{RankEnd, has_lines, rank_end};

@@ -3,6 +3,7 @@
 //! proved.
 #![tactic(auto)]
 
+mod ahead;
 mod auditing;
 mod auditor;
 mod clocks;
@@ -11,8 +12,10 @@ mod fault;
 pub mod final_runs;
 mod lines;
 mod outcome;
+mod progress;
 mod trace;
 
+pub use ahead::Ahead;
 pub use auditing::{Audited, audit, find_run};
 pub use clocks::Clocks;
 pub use fault::AuditFault;

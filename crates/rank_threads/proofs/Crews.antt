@@ -1,5 +1,5 @@
 -- Lists of stations that were kept.
-use Rattle.std.proofs.Common.{◌≡◌, ℕ, List, [], ◌∷◌, ◌++◌, Some, None, sym, ◌∙◌}
+use Rattle.std.proofs.Common.{◌≡◌, List, [], ◌∷◌, ◌++◌, Some, None, sym, ◌∙◌}
 use Rattle.rank_language.specs.Program.{ProgramValue}
 use Rattle.rank_node.specs.declared.fault.NodeFault.TheVariants as fault
 use Rattle.rank_threads.proofs.SeatingLemmas.{stations_snoc}

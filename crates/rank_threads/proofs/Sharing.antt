@@ -11,6 +11,7 @@ use denote.Struct.Tuple.{TupleAt, field_at, type_at}
 use Rattle.std.proofs.Crossing.{crosses}
 use Rattle.std.proofs.sync.OnceLock.TheSendSync as once
 use Rattle.rank_language.proofs.Sharing.{program_sync}
+use Rattle.rank_threads.proofs.early_audit.feed.Feed.TheSendSync as feed
 use Rattle.rank_threads.proofs.life.parcel.Parcel.TheSendSync as parcel
 use Rattle.rank_threads.specs.contracts.life.parcel.Parcel as Parcel
 use Rattle.rank_threads.specs.contracts.shared.Shared as Shared
@@ -34,8 +35,11 @@ shared_sync a H hold =
                 (
                   search (crosses, sendable) depth 60,
                   (
-                    search (once.the_sync, crosses, sendable) depth 60,
-                    tt,
+                    search (feed.the_sync, crosses, sendable) depth 60,
+                    (
+                      search (once.the_sync, crosses, sendable) depth 60,
+                      tt,
+                    ),
                   ),
                 ),
               ),

@@ -3,7 +3,7 @@
 -- the row that was fetched behind it.
 -- Source: fail-stop processors, Schlichting and Schneider 1983; recovery by replay of the
 -- determinant log, Alvisi and Marzullo 1998.
-use Rattle.std.specs.Prelude.{◌≡◌, ◌≢◌, ℕ, List, [], ◌∷◌, Some, None}
+use Rattle.std.specs.Prelude.{◌≡◌, ◌≢◌, List, [], ◌∷◌, Some, None}
 use Rattle.audit.specs.declared.outcome.End.TheVariants as end
 use Rattle.event_logger.specs.Desks.{own_row}
 use Rattle.rank_language.specs.Program.{ProgramValue}

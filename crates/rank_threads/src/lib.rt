@@ -23,6 +23,7 @@
 #![tactic(auto)]
 
 mod costs;
+mod early_audit;
 mod hold;
 mod lanes_of;
 mod leaving;
@@ -41,6 +42,7 @@ mod tally;
 mod turn;
 
 pub use costs::{Costs, LogSize};
+pub use early_audit::{AuditStart, EarlyAudit, Feed};
 pub use hold::Hold;
 pub use life::Seat;
 pub use playing::{Played, play, play_by_turns};

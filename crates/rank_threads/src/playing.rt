@@ -10,6 +10,7 @@ ghost use Rattle.rank_threads.specs.Seating.{IsRoom};
 ghost use Rattle.rank_threads.specs.Stage.{IsStage};
 ghost use Rattle.rank_threads.specs.Stations.{stations_of};
 
+use crate::early_audit::{EarlyAudit, Feed};
 use crate::hold::Hold;
 use crate::leaving::Mark;
 use crate::life::{
@@ -20,6 +21,7 @@ use crate::schedule::Schedule;
 use crate::shared::Shared;
 use crate::stage::Stage;
 use crate::stop::OutOfTurns;
+use audit::Ahead;
 use crossbeam_utils::CachePadded;
 use event_logger::{Desk, Logger};
 use limits::Heap;
@@ -63,6 +65,7 @@ impl Ground {
         program: &'a Program,
         hold: &'a H,
         limits: RunLimits,
+        feeds: &'a [Feed],
     ) -> Shared<'a, H>
         ensures { result.program.now ≡ program.entry.now }
     {
@@ -74,15 +77,17 @@ impl Ground {
             console: &self.console,
             marks: self.marks.as_slice(),
             bells: self.bells.as_slice(),
+            feeds,
             stop: &self.stop,
         }
     }
 }
 
 /// Plays the program at the new desks of this logger, each rank on a thread of its
-/// own, until all ranks have left. The desks come back, each with the calls that
-/// its rank made. No memory is refused before every station is back.
-pub fn play<'l, R: Threads + Wait + Sync + Copy + Send, H: Hold + Sync>(
+/// own, until all ranks have left, and goes on with their audit meanwhile. The desks come
+/// back, each with the calls that its rank made, and the run that was made ahead. No want of
+/// memory is told before every station is back.
+pub fn play<'l, 'q, R: Threads + Wait + Sync + Copy + Send, H: Hold + Sync>(
     rt: R,
     alloc: Heap,
     program: &Program,
@@ -93,7 +98,8 @@ pub fn play<'l, R: Threads + Wait + Sync + Copy + Send, H: Hold + Sync>(
     stage: Stage<'l, R>,
     logger: &'l Logger,
     desks: Vec<Desk, Heap>,
-) -> (Played, Vec<Desk, Heap>)
+    early: EarlyAudit<'q>,
+) -> (Played, Vec<Desk, Heap>, Ahead<'q>)
     requires few { size ≤ most_ranks }
     requires stage { IsStage size _script.now stage }
     requires ranks { logger.now.ranks ≡ size }
@@ -103,6 +109,7 @@ pub fn play<'l, R: Threads + Wait + Sync + Copy + Send, H: Hold + Sync>(
     ensures played { IsPlayed program.entry.now size _script.now logger.now result.1.items result.0 }
     ensures desks { AreDesks logger.now.table result.1.items }
     ensures a_desk_each { vec_len result.1 ≡ size }
+    ensures ahead { result.2 ≡ early.entry.ahead }
 {
     let SetOut {
         ground,
@@ -110,12 +117,14 @@ pub fn play<'l, R: Threads + Wait + Sync + Copy + Send, H: Hold + Sync>(
         room,
     } = set_out(rt, alloc, size, _script, stage, logger, desks);
     let begun = Snapshot::of(&stations);
-    let shared = ground.shared(alloc, program, hold, limits);
-    let stations = keep_all(rt, &shared, stations);
+    let EarlyAudit { feeds, ahead } = early;
+    let shared = ground.shared(alloc, program, hold, limits, feeds.as_slice());
+    let (stations, ahead) = keep_all(rt, &shared, stations, ahead);
     drop(shared);
-    clear_away(
+    let (played, desks) = clear_away(
         program, size, _script, logger, begun, ground, stations, room,
-    )
+    );
+    (played, desks, ahead)
 }
 
 /// Plays the program at the new desks of this logger on the caller's thread, turn
@@ -153,7 +162,7 @@ pub fn play_by_turns<'p, 'l, W: Wait + Drop + Copy, H: Hold>(
         room,
     } = set_out(rt, alloc, size, _script, stage, logger, desks);
     let begun = Snapshot::of(&stations);
-    let shared = ground.shared(alloc, program, hold, limits);
+    let shared = ground.shared(alloc, program, hold, limits, &[]);
     let (stations, spent) = keep_by_turns(rt, &shared, schedule, stations, seats);
     drop(shared);
     let (played, desks) = clear_away(

@@ -1,6 +1,7 @@
 //! What all ranks of a run share.
 ghost use Rattle.std.specs.Prelude.{◌≡◌};
 
+use crate::early_audit::Feed;
 use crate::leaving::Mark;
 use crate::running::RunLimits;
 use crossbeam_utils::CachePadded;
@@ -41,6 +42,8 @@ pub struct Shared<'a, H> {
     pub marks: &'a [CachePadded<Mark>],
     /// A bell is rung after each put into a lane to its rank, unless there are few ranks.
     pub bells: &'a [CachePadded<AtomicBool>],
+    /// That of each rank, unless the audit begins behind the run.
+    pub feeds: &'a [Feed],
     /// Once it is set all ranks leave at their next turn.
     pub stop: &'a OnceLock<()>,
 }
@@ -56,6 +59,7 @@ impl<H> Drop for Shared<'_, H> {
             console: _,
             marks: _,
             bells: _,
+            feeds: _,
             stop: _,
         } = self;
     }
@@ -93,6 +97,11 @@ impl<H> Shared<'_, H> {
             return None;
         }
         Some(NoRing(()))
+    }
+
+    /// The feed of this rank, unless the audit begins behind the run.
+    pub fn feed(&self, rank: u8) -> Option<&Feed> {
+        self.feeds.get(usize::from(rank))
     }
 
     /// The mark of this rank is set.

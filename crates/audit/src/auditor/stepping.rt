@@ -8,6 +8,7 @@ ghost use Rattle.audit.specs.Outcome.{OutcomeValue};
 ghost use Rattle.audit.specs.Lines.{IsSorted};
 ghost use Rattle.audit.specs.Counts.{AreCounted};
 ghost use Rattle.audit.specs.Audits.{Keeps, GoesTo, IsSendTo, Suits, Repeats};
+ghost use Rattle.audit.specs.Ahead.{AddsEvent, KeepsRows, Spends};
 ghost use Rattle.audit.specs.Playing.{Plays, NoneIsOffered, IsNextEvent, IsNextLine, IsOfMessage};
 
 use crate::auditor::{Auditor, Goal};
@@ -27,6 +28,7 @@ impl Auditor<'_> {
         ensures plays { (o : OutcomeValue) (k : ℕ) → Plays o rank (k + result) k self.old.sim self.new.sim }
         ensures stops { result < most → StandsAtAct self.new.sim.machines rank }
         ensures same { result ≡ 0 → self.new.sim ≡ self.old.sim }
+        ensures rows { KeepsRows self.old.sim self.new.sim }
     {
         self.sim.stride(rank, most)
     }
@@ -64,7 +66,7 @@ impl Auditor<'_> {
     }
 
     /// The send that the rank wants.
-    fn send(&mut self, rank: u8, want: Want, dest: u8) -> Result<bool, AllocError>
+    pub(super) fn send(&mut self, rank: u8, want: Want, dest: u8) -> Result<bool, AllocError>
         requires rank { rank < length self.old.sim.machines }
         requires dest { dest < length self.old.sim.machines }
         requires keeps { Keeps self.old.sim self.old.traces.items }
@@ -72,6 +74,8 @@ impl Auditor<'_> {
         requires sends { IsSendTo dest want }
         ensures goes { OnOk result (GoesTo self.old.sim self.new.sim self.new.traces.items) }
         ensures made { IfOk result (λ made. made ≡ true → (o : OutcomeValue) (k : ℕ) → Plays o rank (k + 1) k self.old.sim self.new.sim) }
+        ensures rows { IfOk result (λ made. made ≡ true → KeepsRows self.old.sim self.new.sim) }
+        ensures spends { IfOk result (λ made. made ≡ true → (k : ℕ) → Spends rank (k + 1) k self.old.sim self.new.sim) }
         ensures none { IfOk result (λ made. made ≡ false → (o : OutcomeValue) → NoneIsOffered o self.old.sim rank) }
         ensures same { IfOk result (λ made. made ≡ false → self.new.sim ≡ self.old.sim) }
     {
@@ -87,13 +91,15 @@ impl Auditor<'_> {
     }
 
     /// The print that the rank wants.
-    fn print(&mut self, rank: u8, value: i64) -> Result<bool, AllocError>
+    pub(super) fn print(&mut self, rank: u8, value: i64) -> Result<bool, AllocError>
         requires rank { rank < length self.old.sim.machines }
         requires keeps { Keeps self.old.sim self.old.traces.items }
         requires wanted { WantsAt self.old.sim.machines rank (Want.Print value) }
         ensures goes { OnOk result (GoesTo self.old.sim self.new.sim self.new.traces.items) }
         ensures made { IfOk result (λ made. made ≡ true → (o : OutcomeValue) → IsNextLine o self.old.sim rank value
             → (k : ℕ) → Plays o rank (k + 1) k self.old.sim self.new.sim) }
+        ensures rows { IfOk result (λ made. made ≡ true → KeepsRows self.old.sim self.new.sim) }
+        ensures spends { IfOk result (λ made. made ≡ true → (k : ℕ) → Spends rank (k + 1) k self.old.sim self.new.sim) }
         ensures none { IfOk result (λ made. made ≡ false → (o : OutcomeValue) → NoneIsOffered o self.old.sim rank) }
         ensures same { IfOk result (λ made. made ≡ false → self.new.sim ≡ self.old.sim) }
     {
@@ -109,13 +115,15 @@ impl Auditor<'_> {
     }
 
     /// The reception, hit or miss that the event keeps.
-    fn choose(&mut self, rank: u8, want: Want, event: Event) -> Result<bool, AllocError>
+    pub(super) fn choose(&mut self, rank: u8, want: Want, event: Event) -> Result<bool, AllocError>
         requires rank { rank < length self.old.sim.machines }
         requires keeps { Keeps self.old.sim self.old.traces.items }
         requires wanted { WantsAt self.old.sim.machines rank want }
         ensures goes { OnOk result (GoesTo self.old.sim self.new.sim self.new.traces.items) }
         ensures made { IfOk result (λ made. made ≡ true → (o : OutcomeValue) → IsNextEvent o self.old.sim rank event
             → (k : ℕ) → Plays o rank (k + 1) k self.old.sim self.new.sim) }
+        ensures rows { IfOk result (λ made. made ≡ true → AddsEvent rank event self.old.sim self.new.sim) }
+        ensures spends { IfOk result (λ made. made ≡ true → (k : ℕ) → Spends rank (k + 1) k self.old.sim self.new.sim) }
         ensures none { IfOk result (λ made. made ≡ false → IsOfMessage want → (o : OutcomeValue) → IsNextEvent o self.old.sim rank event
             → NoneIsOffered o self.old.sim rank) }
         ensures same { IfOk result (λ made. made ≡ false → self.new.sim ≡ self.old.sim) }

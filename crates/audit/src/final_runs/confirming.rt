@@ -7,6 +7,7 @@ ghost use Rattle.audit.specs.FinalRuns.Final.{IsConfirmed, IsFinal, IsWhy, NoneI
 ghost use Rattle.audit.specs.FinalRuns.Maximal.{IsPossible};
 
 use crate::Outcome;
+use crate::ahead::Ahead;
 use crate::auditing::find_with;
 use crate::auditor::stretching::{InTurn, SideBySide, Stretching};
 use crate::final_runs::fault::FinalFault;
@@ -67,43 +68,36 @@ pub fn confirmed_run<'p>(
     ensures ok { IfOk result (λ run. IsConfirmed program.entry.now ranks outcome.now steps run) }
     ensures err { IfErr result (λ fault. IsWhy program.entry.now ranks outcome.now steps fault) }
 {
-    confirmed_with(&InTurn, alloc, program, ranks, outcome, steps)
+    confirmed_with(&InTurn, Ahead::none(program, ranks, steps), alloc, outcome)
 }
 
-/// The same, and it goes through long stretches of steps of the ranks' own side by
-/// side, on threads. Where a thread can't be made it does what that thread would.
-pub fn confirmed_run_on<'p, R: Threads + Sync>(
+/// The same, behind a run that was made ahead, of its program, its ranks and its steps.
+/// It goes through long stretches of steps of the ranks' own side by side, on threads.
+/// Where a thread can't be made it does what that thread would.
+pub fn confirmed_run_behind<'p, R: Threads + Sync>(
     rt: &R,
+    ahead: Ahead<'p>,
     alloc: Heap,
-    program: &'p Program,
-    ranks: u8,
     outcome: &Outcome,
-    steps: u32,
 ) -> Result<Sim<'p>, FinalFault>
-    requires some { 1 ≤ ranks }
-    requires few { ranks ≤ most_ranks }
-    ensures ok { IfOk result (λ run. IsConfirmed program.entry.now ranks outcome.now steps run) }
-    ensures err { IfErr result (λ fault. IsWhy program.entry.now ranks outcome.now steps fault) }
+    ensures ok { IfOk result (λ run. IsConfirmed ahead.entry.program ahead.entry.ranks outcome.now ahead.entry.steps run) }
+    ensures err { IfErr result (λ fault. IsWhy ahead.entry.program ahead.entry.ranks outcome.now ahead.entry.steps fault) }
 {
-    confirmed_with(&SideBySide { rt }, alloc, program, ranks, outcome, steps)
+    confirmed_with(&SideBySide { rt }, ahead, alloc, outcome)
 }
 
 /// The same, with long stretches of steps of the ranks' own left to `stretching`.
 fn confirmed_with<'p, S: Stretching>(
     stretching: &S,
+    ahead: Ahead<'p>,
     alloc: Heap,
-    program: &'p Program,
-    ranks: u8,
     outcome: &Outcome,
-    steps: u32,
 ) -> Result<Sim<'p>, FinalFault>
     requires can { S.can stretching.now }
-    requires some { 1 ≤ ranks }
-    requires few { ranks ≤ most_ranks }
-    ensures ok { IfOk result (λ run. IsConfirmed program.entry.now ranks outcome.now steps run) }
-    ensures err { IfErr result (λ fault. IsWhy program.entry.now ranks outcome.now steps fault) }
+    ensures ok { IfOk result (λ run. IsConfirmed ahead.entry.program ahead.entry.ranks outcome.now ahead.entry.steps run) }
+    ensures err { IfErr result (λ fault. IsWhy ahead.entry.program ahead.entry.ranks outcome.now ahead.entry.steps fault) }
 {
-    match find_with(stretching, alloc, program, ranks, outcome, steps) {
+    match find_with(stretching, ahead, alloc, outcome) {
         Ok(run) => match not_stalled(&run, outcome.ends.as_slice()) {
             None => Ok(run),
             Some(rank) => Err(FinalFault::FalseStall(rank)),

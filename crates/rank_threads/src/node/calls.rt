@@ -8,6 +8,7 @@ ghost use Rattle.rank_threads.specs.Phases.{HasImage, NoneWaits, ReadsRow, SameS
 
 use super::Node;
 use super::releasing::release_all;
+use crate::early_audit::Feed;
 use checkpoint::MemoryShelf;
 use event_logger::{Desk, Event};
 use limits::Heap;
@@ -100,14 +101,19 @@ impl<'p, 'l> Node<'p, 'l> {
     }
 
     /// What waits at the gate of a rank that runs passes. Answers whether the
-    /// logger took all its events. An `Err` means out of memory.
-    pub fn release<W: Wait>(&mut self, rt: &W, console: &Console) -> Result<bool, AllocError>
+    /// logger took all its events, which are put into the feed. An `Err` means out of memory.
+    pub fn release<W: Wait>(
+        &mut self,
+        rt: &W,
+        console: &Console,
+        feed: Option<&Feed>,
+    ) -> Result<bool, AllocError>
         ensures settled { IfOk result (λ all. all ≡ true → NoneWaits self.new.phase) }
         ensures shelf { SameShelf self.old.phase self.new.phase }
         ensures stands { KeepsStand self.old self.new }
     {
         match &mut self.phase {
-            Phase::Running(rank) => release_all(rt, self.logger, console, rank),
+            Phase::Running(rank) => release_all(rt, self.logger, console, feed, rank),
             Phase::Replaying(_) | Phase::Down(_) => Ok(true),
         }
     }

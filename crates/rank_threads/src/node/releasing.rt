@@ -6,20 +6,23 @@ ghost use Rattle.rank_threads.specs.Phases.{SameStable};
 ghost use Rattle.rank_threads.specs.Releasing.{is_line};
 
 use super::no_screen::NoScreen;
+use crate::early_audit::Feed;
 use checkpoint::MemoryShelf;
-use event_logger::{Desk, Logger};
+use event_logger::{Desk, Event, Logger};
 use ports::Console;
 use rank_node::{NodeFault, Running, Waiting};
 use std::alloc::AllocError;
 use std::sync::Wait;
 
 /// Stores and acknowledges every event of the rank, and releases every send and
-/// line that waits, in their order. Answers whether the logger took all events.
+/// line that waits, in their order. Answers whether the logger took all events. Those that
+/// it took are put into the feed.
 #[tactic(auto, using(crate::proofs::ReleasingLemmas::nothing_waits, rank_node::proofs::Again::settled_nil))]
 pub fn release_all<W: Wait>(
     rt: &W,
     logger: &Logger,
     console: &Console,
+    feed: Option<&Feed>,
     rank: &mut Running<'_, MemoryShelf, Desk>,
 ) -> Result<bool, AllocError>
     requires { rank.old.stable.desk.table ≡ logger.now.table }
@@ -36,8 +39,10 @@ pub fn release_all<W: Wait>(
         if release(rt, console, rank)? {
             continue;
         }
+        let event = rank.oldest_unstored();
         match rank.store(logger) {
             Ok(Some(_)) => {
+                tell(rt, feed, event);
                 rank.ack();
             }
             Ok(None) => return Ok(true),
@@ -51,6 +56,13 @@ pub fn release_all<W: Wait>(
                 | NodeFault::Log,
             ) => return Ok(false),
         }
+    }
+}
+
+// The rank has stored an event, which goes to the audit, too.
+fn tell<W: Wait>(rt: &W, feed: Option<&Feed>, event: Option<Event>) {
+    if let (Some(feed), Some(event)) = (feed, event) {
+        feed.put(rt, event);
     }
 }
 

@@ -16,8 +16,8 @@ use crate::life::Account;
 use crate::playing::Played;
 use crate::report::{Certified, Report, RunFault};
 use crate::running::RunLimits;
-use audit::final_runs::{confirmed_run, confirmed_run_on};
-use audit::{End, Outcome};
+use audit::final_runs::{confirmed_run, confirmed_run_behind};
+use audit::{Ahead, End, Outcome};
 use event_logger::{Counts, Desk, Ledger, Logger};
 use limits::Heap;
 use matching::Line;
@@ -29,11 +29,13 @@ use std::thread::Threads;
 
 /// Closes the logger at whose desks a program was played, and answers the report
 /// of the play, once it is confirmed, with the run that confirms it. The report is
-/// of these desks, and of lives by this script, which clauses alone read. Threads of
-/// `rt` go through what ranks did between two acts side by side.
+/// of these desks, and of lives by this script, which clauses alone read. What was made
+/// ahead isn't made again if the outcome begins with it. Threads of `rt` go through what
+/// ranks did between two acts side by side.
 #[tactic(auto, using(crate::proofs::ReportLemmas::is_within))]
 pub fn certify<'p, R: Threads + Sync>(
     rt: &R,
+    ahead: Ahead<'p>,
     alloc: Heap,
     program: &'p Program,
     ranks: u8,
@@ -43,7 +45,7 @@ pub fn certify<'p, R: Threads + Sync>(
     logger: Logger,
     desks: Vec<Desk, Heap>,
 ) -> Result<Certified<'p>, RunFault>
-    requires some { 1 ≤ ranks }
+    requires ahead { ahead ≡ record { program = program.now; ranks = ranks; steps = limits.steps } }
     requires few { ranks ≤ most_ranks }
     requires ranks { logger.ranks ≡ ranks }
     requires desks { AreDesks logger.table desks.items }
@@ -57,7 +59,7 @@ pub fn certify<'p, R: Threads + Sync>(
     ensures unfinished { IfOk result (λ certified. AreCaused limits.steps certified.report) }
 {
     let report = report_of(alloc, program, ranks, script, limits, played, logger, desks)?;
-    let run = confirmed_run_on(rt, alloc, program, ranks, &report.outcome, limits.steps)?;
+    let run = confirmed_run_behind(rt, ahead, alloc, &report.outcome)?;
     Ok(Certified { report, run })
 }
 

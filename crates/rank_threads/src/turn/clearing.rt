@@ -68,7 +68,8 @@ fn pass_all<W: Wait, H>(
     ensures uncounted { is_imaged ≡ false → life.new.kit.meter ≡ life.old.kit.meter }
     ensures cleared { ClearsGate is_imaged is_asked life.old life.new result }
 {
-    let Ok(all) = life.node.release(rt, shared.console) else {
+    let feed = shared.feed(life.kit.rank);
+    let Ok(all) = life.node.release(rt, shared.console, feed) else {
         return Err(NodeFault::Memory);
     };
     if !all {

@@ -18,7 +18,7 @@ use command_line::RunJob;
 use limits::Heap;
 use rank_language::Program;
 use rank_text::script::Script;
-use rank_threads::{Certified, Hold, Report, RunFault, RunLimits, Schedule};
+use rank_threads::{AuditStart, Certified, Hold, Report, RunFault, RunLimits, Schedule};
 use std::alloc::AllocError;
 use std::sync::Wait;
 use std::thread::Threads;
@@ -74,7 +74,10 @@ fn report_of<'a, R: Threads + Wait + Sync + Copy + Send, F: Files>(
     let asked = script_by(alloc, job.script, job.ranks, files)?;
     let (program, script) = (&lined.program, &asked.script);
     let (limits, schedule) = (limits_of(job), schedule_of(job.scheduling));
-    let made = certified_by(rt, alloc, program, job.ranks, script, limits, schedule);
+    let start = AuditStart::Early;
+    let made = certified_by(
+        rt, alloc, program, job.ranks, script, limits, schedule, start,
+    );
     drop(asked);
     let certified = match made {
         Ok(certified) => certified,
@@ -103,8 +106,9 @@ pub fn report_by<R: Threads + Wait + Sync + Copy + Send>(
     requires few { ranks ≤ most_ranks }
     ensures { IfOk result (λ report. IsReportUnder program.now ranks script.now limits.steps report) }
 {
+    let start = AuditStart::Early;
     let Certified { report, run: _ } = certified_by(
-        rt, alloc, program, ranks, script, limits, schedule,
+        rt, alloc, program, ranks, script, limits, schedule, start,
     )?;
     Ok(report)
 }

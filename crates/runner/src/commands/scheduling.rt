@@ -10,7 +10,7 @@ use limits::Heap;
 use rank_language::Program;
 use rank_text::script::Script;
 use rank_threads::{
-    Certified, RunFault, RunLimits, Schedule, certified_run, certified_run_by_turns,
+    AuditStart, Certified, RunFault, RunLimits, Schedule, certified_run, certified_run_by_turns,
 };
 use std::sync::Wait;
 use std::thread::Threads;
@@ -50,7 +50,8 @@ fn scheduled(scheduling: Scheduling, seed: u64) -> Option<Schedule> {
 
 /// The report of a run of the program under this script, in which nobody waits for
 /// an act, with the run without crashes that has its outcome. Without a schedule
-/// each rank is on a thread of its own; what is said of the report is the same.
+/// each rank is on a thread of its own, and the audit begins as `start` says; what is said
+/// of the report is the same.
 #[tactic(auto, using(crate::proofs::Answers::is_report_under))]
 pub fn certified_by<'p, R: Threads + Wait + Sync + Copy + Send>(
     rt: &R,
@@ -60,6 +61,7 @@ pub fn certified_by<'p, R: Threads + Wait + Sync + Copy + Send>(
     script: &Script,
     limits: RunLimits,
     schedule: Option<Schedule>,
+    start: AuditStart,
 ) -> Result<Certified<'p>, RunFault>
     requires some { 1 ≤ ranks }
     requires few { ranks ≤ most_ranks }
@@ -67,7 +69,7 @@ pub fn certified_by<'p, R: Threads + Wait + Sync + Copy + Send>(
     ensures run { IfOk result (λ certified. IsFound program.entry.now ranks certified.report.outcome limits.steps certified.run) }
 {
     match schedule {
-        None => certified_run(rt, alloc, program, ranks, script, limits, &Nobody),
+        None => certified_run(rt, alloc, program, ranks, script, limits, &Nobody, start),
         Some(schedule) => certified_run_by_turns(
             rt,
             alloc,

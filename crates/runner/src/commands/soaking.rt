@@ -18,7 +18,7 @@ use limits::Heap;
 use outcomes::soak::{Most, draw, text_of};
 use rank_language::Program;
 use rank_text::script::Script;
-use rank_threads::{RunFault, RunLimits};
+use rank_threads::{AuditStart, RunFault, RunLimits};
 use run_events::laws::law_masks_reports;
 use std::alloc::AllocError;
 use std::sync::Wait;
@@ -228,7 +228,8 @@ fn acts_of<'a, R: Threads + Wait + Sync + Copy + Send>(
     let (ranks, limits) = (job.ranks, limits_of(job));
     let script = Script::new(alloc);
     let schedule = schedule_of(job.scheduling);
-    let made = certified_by(rt, alloc, program, ranks, &script, limits, schedule);
+    let start = AuditStart::Behind;
+    let made = certified_by(rt, alloc, program, ranks, &script, limits, schedule, start);
     drop(script);
     let certified = match made {
         Ok(certified) => certified,

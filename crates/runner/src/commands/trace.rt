@@ -22,7 +22,7 @@ use command_line::{RunJob, TraceForm, TraceJob};
 use crash_free::Sim;
 use limits::Heap;
 use rank_language::{LinedProgram, Program};
-use rank_threads::{Cause, Certified, Report};
+use rank_threads::{AuditStart, Cause, Certified, Report};
 use run_events::{PlayFault, play_script_text, play_text};
 use run_shown::trace::{Given, WhyUnfinished, trace_json, trace_text};
 use std::alloc::AllocError;
@@ -78,7 +78,10 @@ fn told<'a, R: Threads + Wait + Sync + Copy + Send>(
     let program = &lined.program;
     let script = &asked.script;
     let schedule = schedule_of(job.run.scheduling);
-    let certified = certified_by(rt, alloc, program, job.run.ranks, script, limits, schedule)?;
+    // the acts of one outcome are shown in one order
+    let start = AuditStart::Behind;
+    let ranks = job.run.ranks;
+    let certified = certified_by(rt, alloc, program, ranks, script, limits, schedule, start)?;
     let said = told_of(alloc, job, text, lined, asked, &certified);
     drop(certified);
     match said {

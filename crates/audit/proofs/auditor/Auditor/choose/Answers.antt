@@ -3,7 +3,8 @@ use Rattle.limits.specs.Limits.{greatest_clock}
 use Rattle.crash_free.specs.Runs.{history}
 use Rattle.audit.specs.Audits.{Suits}
 use Rattle.audit.proofs.Counting.{events_few}
-use Rattle.audit.proofs.Playing.{plays_event}
+use Rattle.audit.proofs.GoingAhead.{spends_allowed, event_added}
+use Rattle.audit.proofs.Playing.{plays_event, suits_apart}
 use Rattle.audit.proofs.Refusing.{no_clock, no_fitting_event, no_event_allowed, why_refused}
 use Rattle.audit.proofs.Steps.{on_ok, repeated_one, trace_there}
 use Rattle.audit.proofs.auditor.Auditor.choose.Goals as goal
@@ -74,3 +75,25 @@ returns-clause-made c = λ yes o next k.
     let named = sym c.receiver_clock.ensures.value ∙ c.if-receiver_clock-clock.false ∙ c.in-Some-next_clock.ensures.some ∙ ap (λ k. k + 1) trace.clock in
     plays_event c.args.self.now.sim c.act.new.self c.args.rank c.args.want c.in-Some.choice c.args.event c.requires.wanted suits c.in-Some.ensures.some
     c.receiver_clock.ensures.event named (on_ok c.act.result _ was c.act.ensures.ok) (omega (arith, few, next_clock, clock)) o next k
+
+pub returns-clause-rows : goal.returns-clause-rows
+returns-clause-rows c = λ yes.
+    (let was = sym c.in_ok-was_allowed.ensures.ok ∙ c.if-not-branch.false in
+    let suits = subst (λ k. Suits c.args.want k) c.kind.ensures (c.suits.ensures.yes c.if-not-suits.false) in
+    let trace = trace_there c.args.self.now.sim c.args.self.now.traces.items c.args.rank c.from-place.result c.index.result.now c.requires.keeps c.requires.rank
+    c.from-place.ensures c.index.ensures in
+    let named = sym c.receiver_clock.ensures.value ∙ c.if-receiver_clock-clock.false ∙ c.in-Some-next_clock.ensures.some ∙ ap (λ k. k + 1) trace.clock in
+    event_added c.args.self.now.sim c.act.new.self c.args.rank c.args.want c.in-Some.choice c.args.event c.requires.wanted suits c.in-Some.ensures.some
+    c.receiver_clock.ensures.event named (on_ok c.act.result _ was c.act.ensures.ok))
+
+pub returns-clause-spends : goal.returns-clause-spends
+returns-clause-spends c = λ yes k.
+    (let was = sym c.in_ok-was_allowed.ensures.ok ∙ c.if-not-branch.false in
+    let suits = subst (λ k. Suits c.args.want k) c.kind.ensures (c.suits.ensures.yes c.if-not-suits.false) in
+    let few = c.in-Some-next_clock.ensures.few in
+    let next_clock = c.in-Some-next_clock.ensures.some in
+    let trace = trace_there c.args.self.now.sim c.args.self.now.traces.items c.args.rank c.from-place.result c.index.result.now c.requires.keeps c.requires.rank
+    c.from-place.ensures c.index.ensures in
+    let clock = trace.clock in
+    spends_allowed c.args.self.now.sim c.act.new.self c.args.rank c.in-Some.choice c.args.want c.requires.wanted (suits_apart c.args.want c.args.event.kind suits)
+    (on_ok c.act.result _ was c.act.ensures.ok) (omega (arith, few, next_clock, clock)) k)

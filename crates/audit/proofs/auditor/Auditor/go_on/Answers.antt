@@ -1,4 +1,4 @@
-use Rattle.std.proofs.Common.{◌≡◌, ◌+◌, ◌-◌, ◌<◌, ◌≤◌, sym, subst, arith}
+use Rattle.std.proofs.Common.{◌≡◌, ◌+◌, ◌-◌, ◌<◌, sym, subst, arith}
 use Rattle.audit.specs.Playing.{Plays, IsStuck}
 use Rattle.audit.proofs.Steps.{goes_on}
 use Rattle.audit.proofs.Playing.{plays_on}

@@ -1,8 +1,10 @@
+use Rattle.crash_free.specs.declared.choice.Choice.TheVariants as choice
 use Rattle.std.proofs.Common.{◌∙◌, ◌≤◌, sym, ap, subst, arith, w64}
 use Rattle.limits.specs.Limits.{greatest_clock}
 use Rattle.std.proofs.lemmas.Int.{to_z-of_z}
 use Rattle.audit.specs.Trace.{with_line}
 use Rattle.audit.proofs.Playing.{plays_print}
+use Rattle.audit.proofs.GoingAhead.{spends_allowed, rows_printed}
 use Rattle.audit.proofs.Refusing.{no_clock}
 use Rattle.audit.proofs.Steps.{on_ok, printed_one, trace_there}
 use Rattle.audit.proofs.auditor.Auditor.print.Goals as goal
@@ -32,3 +34,19 @@ returns-clause-made c = λ yes o next k.
     let clock = trace.clock in
     plays_print c.args.self.now.sim c.act.new.self c.args.rank c.args.value c.requires.wanted (on_ok c.act.result _ was c.act.ensures.ok)
     (omega (arith, few, next_clock, clock)) o next k
+
+pub returns-clause-rows : goal.returns-clause-rows
+returns-clause-rows c = λ yes.
+    (let was = sym c.in_ok-was_allowed.ensures.ok ∙ c.if-not-branch.false in
+    rows_printed c.args.self.now.sim c.act.new.self c.args.rank c.args.value c.requires.wanted (on_ok c.act.result _ was c.act.ensures.ok))
+
+pub returns-clause-spends : goal.returns-clause-spends
+returns-clause-spends c = λ yes k.
+    (let was = sym c.in_ok-was_allowed.ensures.ok ∙ c.if-not-branch.false in
+    let few = c.in-Some.ensures.few in
+    let next_clock = c.in-Some.ensures.some in
+    let trace = trace_there c.args.self.now.sim c.args.self.now.traces.items c.args.rank c.from-place.result c.index.result.now c.requires.keeps c.requires.rank
+    c.from-place.ensures c.index.ensures in
+    let clock = trace.clock in
+    spends_allowed c.args.self.now.sim c.act.new.self c.args.rank choice.Next _ c.requires.wanted (λ e. cc)
+    (on_ok c.act.result _ was c.act.ensures.ok) (omega (arith, few, next_clock, clock)) k)

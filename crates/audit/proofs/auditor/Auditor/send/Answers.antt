@@ -1,7 +1,9 @@
+use Rattle.crash_free.specs.declared.choice.Choice.TheVariants as choice
 use Rattle.std.proofs.Common.{◌∙◌, ◌≤◌, sym, subst, arith}
 use Rattle.limits.specs.Limits.{greatest_clock}
 use Rattle.audit.proofs.Steps.{on_ok, sent_one, trace_there}
-use Rattle.audit.proofs.Playing.{plays_send}
+use Rattle.audit.proofs.Playing.{plays_send, send_apart}
+use Rattle.audit.proofs.GoingAhead.{spends_allowed, rows_sent}
 use Rattle.audit.proofs.Refusing.{no_clock}
 use Rattle.audit.proofs.auditor.Auditor.send.Goals as goal
 
@@ -37,3 +39,20 @@ note_send-requires c =
     let wide = trace.width in
     let dest = c.requires.dest in
     omega (arith, wide, dest)
+
+pub returns-clause-rows : goal.returns-clause-rows
+returns-clause-rows c = λ yes.
+    (let was = sym c.in_ok-was_allowed.ensures.ok ∙ c.if-not-branch.false in
+    rows_sent c.args.self.now.sim c.act.new.self c.args.rank c.args.dest c.args.want c.requires.wanted c.requires.sends
+    (on_ok c.act.result _ was c.act.ensures.ok))
+
+pub returns-clause-spends : goal.returns-clause-spends
+returns-clause-spends c = λ yes k.
+    (let was = sym c.in_ok-was_allowed.ensures.ok ∙ c.if-not-branch.false in
+    let few = c.in-Some.ensures.few in
+    let next_clock = c.in-Some.ensures.some in
+    let trace = trace_there c.args.self.now.sim c.args.self.now.traces.items c.args.rank c.from-place.result c.index.result.now c.requires.keeps c.requires.rank
+    c.from-place.ensures c.index.ensures in
+    let clock = trace.clock in
+    spends_allowed c.args.self.now.sim c.act.new.self c.args.rank choice.Next c.args.want c.requires.wanted (send_apart c.args.dest c.args.want c.requires.sends)
+    (on_ok c.act.result _ was c.act.ensures.ok) (omega (arith, few, next_clock, clock)) k)

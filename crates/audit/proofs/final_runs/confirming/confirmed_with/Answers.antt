@@ -11,12 +11,12 @@ pub not_stalled-requires : goal.not_stalled-requires
 not_stalled-requires g c =
     let ends = c.as_slice.ensures.value ∙ ap (λ (o : OutcomeValue). o.ends) c.outcome.view_is in
     subst (λ es. AreWaiting c.in-Ok.run' es) (sym ends)
-    (are_waiting c.args.program.now c.args.ranks c.args.outcome.now c.args.steps c.in-Ok.run' c.in-Ok.ensures.ok)
+    (are_waiting c.args.ahead.program c.args.ahead.ranks c.args.outcome.now c.args.ahead.steps c.in-Ok.run' c.in-Ok.ensures.ok)
 
 pub returns-in-None-clause-ok : goal.returns-in-None-clause-ok
 returns-in-None-clause-ok g c =
     let ends = c.as_slice.ensures.value ∙ ap (λ (o : OutcomeValue). o.ends) c.outcome.view_is in
-    is_confirmed c.args.program.now c.args.ranks c.args.outcome.now c.args.steps c.in-Ok.run' c.in-Ok.ensures.ok
+    is_confirmed c.args.ahead.program c.args.ahead.ranks c.args.outcome.now c.args.ahead.steps c.in-Ok.run' c.in-Ok.ensures.ok
     (subst (λ es. HaveStalled (start_of c.in-Ok.run'.program (length c.in-Ok.run'.machines)) (length c.in-Ok.run'.machines) c.in-Ok.run'.run es) ends
     (c.in-None.ensures.none refl))
 
@@ -27,4 +27,4 @@ returns-in-Ok-clause-err g c =
     let may =
     subst (λ es. HasNotStalled (start_of c.in-Ok.run'.program (length c.in-Ok.run'.machines)) (length c.in-Ok.run'.machines) c.in-Ok.run'.run es c.in-Some.rank)
     ends c.in-Some.ensures.may in
-    (said, never_stalled c.args.program.now c.args.ranks c.args.outcome.now c.args.steps c.in-Ok.run' c.in-Ok.ensures.ok c.in-Some.rank said may)
+    (said, never_stalled c.args.ahead.program c.args.ahead.ranks c.args.outcome.now c.args.ahead.steps c.in-Ok.run' c.in-Ok.ensures.ok c.in-Some.rank said may)
