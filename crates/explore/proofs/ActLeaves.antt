@@ -56,7 +56,7 @@ sends_nothing c r misses e = refl
 sends_nothing c r (prints value) e = refl
 
 -- it leaves what each rank sent to that one
-sent_to_other : (C : List Passed) (p : Passed) (q r : ℕ) → sends_to p.act r ≡ false → sent (p ∷ C) q r ≡ sent C q r
+pub sent_to_other : (C : List Passed) (p : Passed) (q r : ℕ) → sends_to p.act r ≡ false → sent (p ∷ C) q r ≡ sent C q r
 sent_to_other C p q r none = by_rank (cases_eq p.rank q)
   where
     by_rank : (p.rank ≡ q) ⊎ (p.rank ≡ q → ⊥) → sent (p ∷ C) q r ≡ sent C q r

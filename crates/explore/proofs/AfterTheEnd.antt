@@ -3,17 +3,14 @@ use Rattle.std.proofs.Common.{◌≢◌, ℕ, List, length, inl, subst}
 use Rattle.rank_machine.specs.declared.want.Want.{Want}
 use Rattle.rank_machine.specs.declared.want.Want.TheVariants as want
 use Rattle.crash_free.specs.Sim.{SimValue, Simulates}
-use Rattle.crash_free.specs.Wanted.{StandsAtAct}
 use Rattle.audit.specs.FinalRuns.Stills.{HasNothing}
-use Rattle.explore.specs.Counts.{StopsAtAct}
 use Rattle.explore.specs.Exploring.{HasOneAnswer}
 use Rattle.explore.specs.Making.{HasEnded, HasEndedAt}
 use Rattle.explore.specs.Moves.{AddsMoves}
 use Rattle.explore.specs.declared.moves.Move.{Move}
 use Rattle.explore.specs.declared.send_mode.SendMode.{SendMode}
-use Rattle.explore.proofs.Making.{none_fixed}
 use Rattle.explore.proofs.Moving.{moves_nothing, still_under}
-use Rattle.explore.proofs.Sending.{buffered, none_under}
+use Rattle.explore.proofs.Sending.{buffered}
 
 -- who has ended asks for nothing that a message answers
 ended_nothing : (s : SimValue) (r : ℕ) (w : Want) → HasEnded w → HasNothing s r w
@@ -27,7 +24,7 @@ ended_nothing s r (want.TryProbe w) ended = absurd ended
 ended_nothing s r (want.Print v) ended = absurd ended
 
 -- nor for what has one answer
-ended_none : (w : Want) → HasEnded w → HasOneAnswer w → ⊥
+pub ended_none : (w : Want) → HasEnded w → HasOneAnswer w → ⊥
 ended_none want.Halted ended one = one
 ended_none (want.Faulted k) ended one = one
 ended_none want.Internal ended one = ended
@@ -38,7 +35,7 @@ ended_none (want.TryProbe w) ended one = ended
 ended_none (want.Print v) ended one = ended
 
 -- nor for a step of its own
-ended_still : (w : Want) → HasEnded w → w ≢ want.Internal
+pub ended_still : (w : Want) → HasEnded w → w ≢ want.Internal
 ended_still w ended same = (let none : HasEnded want.Internal = subst HasEnded same ended in none)
 
 -- it has no moves
@@ -52,9 +49,3 @@ adds_ended mode s r moves stands ended =
       still = λ e. still_under mode s r (none.still e);
       once = λ d o. d;
     }
-
--- and has stopped
-pub ended_stops : (mode : SendMode) → (s : SimValue) (r : ℕ) → Simulates s → HasEndedAt s.machines r → StopsAtAct mode s r
-ended_stops mode s r stands ended free =
-    let at : StandsAtAct s.machines r = (ended.0, ended.1, ended_still ended.0 ended.2) in
-    (at, none_under mode s r (none_fixed s r ended.0 stands ended.1 (ended_none ended.0 ended.2) at))

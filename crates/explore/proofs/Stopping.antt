@@ -14,6 +14,7 @@ use Rattle.explore.specs.declared.stops.Stops.{Stops}
 use Rattle.explore.specs.Counts.{Counts, KeepsCount}
 use Rattle.explore.specs.Making.{LeadsTo}
 use Rattle.explore.specs.Outcomes.{IsAmong}
+use Rattle.explore.specs.Resting.{AreResting}
 use Rattle.explore.specs.Searching.{IsAlike}
 use Rattle.explore.specs.Stops.{AreSomeOf, AreStops, AreWithin, CanGoBack, IsClosest, IsOneOf, IsStop, KeepsStops}
 use Rattle.explore.proofs.Among.{among_push}
@@ -29,6 +30,7 @@ stop_same program n steps C D stop is within same =
     record {
       point = same_point program n C D stop.point is.point within same;
       counts = subst (λ (P : List Passed). Counts steps (by P) stop.left) (sym same) is.counts;
+      resting = subst (λ (P : List Passed). AreResting (by P) stop.marks) (sym same) is.resting;
     }
   where
     by : List Passed → SimValue
@@ -93,14 +95,15 @@ all_within program n steps C stops k are later stop (inr a) = later stop a
 
 -- where the simulation stands is a stop of its run
 pub stop_there : (s : SimValue) (left : List ℕ) (stop : Stop) → IsPointOf s.program (length s.machines) s.run stop.point
-    → stood s.program s.run stop.point ≡ s → stop.left ≡ left → (steps : ℕ) → Counts steps s left
+    → stood s.program s.run stop.point ≡ s → stop.left ≡ left → AreResting s stop.marks → (steps : ℕ) → Counts steps s left
     → IsStop s.program (length s.machines) steps s.run stop
-stop_there s left stop point here same steps counts =
+stop_there s left stop point here same resting steps counts =
     record {
       point = point;
       counts =
           subst (λ (xs : List ℕ). Counts steps (stood s.program s.run stop.point) xs) (sym same)
           (subst (λ (z : SimValue). Counts steps z left) (sym here) counts);
+      resting = subst (λ (z : SimValue). AreResting z stop.marks) (sym here) resting;
     }
 
 -- with it the stops are stops still
@@ -146,6 +149,9 @@ module _ (s : SimValue) (stops : Stops) (stop : Stop) (closest : IsClosest stops
 
   pub back_point : IsPointOf s.program (length s.machines) s.run stop.point
   back_point = is.point
+
+  pub back_resting : AreResting (stood s.program s.run stop.point) stop.marks
+  back_resting = is.resting
 
   pub back_alike : (t : SimValue) → t ≡ stood s.program s.run stop.point → IsAlike s t
   back_alike t back =

@@ -9,12 +9,14 @@ use Rattle.explore.specs.declared.stops.Stop.{Stop}
 use Rattle.explore.specs.declared.stops.Stops.{Stops}
 use Rattle.explore.specs.Counts.{Counts}
 use Rattle.explore.specs.Outcomes.{IsAmong}
+use Rattle.explore.specs.Resting.{AreResting}
 
--- The stop is one of this run of the program on n ranks: its point is, and what each rank had made there and what it had left are so many
--- steps together.
+-- The stop is one of this run of the program on n ranks: its point is, what each rank had made there and what it had left are so many
+-- steps together, and the ranks with a mark rest there.
 pub record IsStop (program : ProgramValue) (n steps : ℕ) (C : List Passed) (stop : Stop) : Type 0 where
   pub point : IsPointOf program n C stop.point
   pub counts : Counts steps (stood program C stop.point) stop.left
+  pub resting : AreResting (stood program C stop.point) stop.marks
 
 -- the stop is one of these
 abbrev pub IsOneOf : Stops → Stop → Type 0

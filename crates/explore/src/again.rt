@@ -8,7 +8,8 @@ ghost use Rattle.explore.specs.Counts.{Spends};
 ghost use Rattle.explore.specs.Exploring.{and_then};
 ghost use Rattle.explore.specs.Searching.{IsAlike};
 
-use crash_free::{Act, Passed, Sim};
+use crate::resting::RestingSim;
+use crash_free::{Act, Passed};
 use std::alloc::AllocError;
 
 pub fn act_at(acts: &[Passed], at: usize) -> &Passed
@@ -21,7 +22,7 @@ pub fn act_at(acts: &[Passed], at: usize) -> &Passed
 /// Makes this act of the rank, which asks for no step of its own first. An
 /// `Err` means out of memory.
 #[tactic(auto, using(crate::proofs::Shown::made_it, crate::proofs::Shown::made_alike))]
-pub fn make(sim: &mut Sim<'_>, rank: u8, act: &Act) -> Result<(), AllocError>
+pub fn make(sim: &mut RestingSim<'_>, rank: u8, act: &Act) -> Result<(), AllocError>
     requires stands { Simulates sim.old }
     requires at { StandsAtAct sim.old.machines rank }
     requires may { MayFollow (start_of sim.old.program (length sim.old.machines)) (length sim.old.machines) sim.old.run rank (act_of act.now) }

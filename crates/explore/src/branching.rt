@@ -27,7 +27,7 @@ pub fn branch_off(
         (stems_of path.now.sim.run pending.new.items)) }
     ensures off { OnOk result (GoOff mode path.now.sim.program (length path.now.sim.machines) path.now.sim.run pending.new.items) }
 {
-    let shared = path.sim.acts().len();
+    let shared = path.sim.as_sim().acts().len();
     let choices = path.choices.len();
     let mut at = moves.len();
     while at > 1 {

@@ -68,15 +68,15 @@ fn follow(
     requires table { IsTableOf path.old.sim.program live.now }
     ensures { IfOk result (λ found. IfSome found (λ _. MayGoOnForEver mode path.old.sim.program (length path.old.sim.machines))) }
 {
-    let mut mark = CycleMark::new(alloc, &path.sim, live)?;
+    let mut mark = CycleMark::new(alloc, path.sim.as_sim(), live)?;
     for _ in 0..MOST_ROUNDS {
         if !round(alloc, mode, path, &mut mark.positions)? {
             return Ok(None);
         }
-        if mark.is_met(mode, &path.sim, live)? {
-            return Ok(Some(mark.into_cycle(&path.sim)));
+        if mark.is_met(mode, path.sim.as_sim(), live)? {
+            return Ok(Some(mark.into_cycle(path.sim.as_sim())));
         }
-        mark.pass(&path.sim, live)?;
+        mark.pass(path.sim.as_sim(), live)?;
     }
     Ok(None)
 }
@@ -97,7 +97,7 @@ fn round(
     let mut some = false;
     let mut rank = 0;
     while rank < ranks {
-        let position = path.sim.machine(rank).position();
+        let position = path.sim.as_sim().machine(rank).position();
         if go_further(alloc, mode, path, rank)? {
             some = true;
             note(positions, position)?;
@@ -135,7 +135,7 @@ fn go_further(
     if made.acted || made.count > 0 {
         return Ok(true);
     }
-    if left == 0 || !is_released(mode, &path.sim, rank) {
+    if left == 0 || !is_released(mode, path.sim.as_sim(), rank) {
         return Ok(false);
     }
     choose_last(alloc, mode, path, rank)
@@ -158,7 +158,7 @@ fn choose_last(
     ensures { OnOk result (GoesFurther mode path.old.sim path.new.sim) }
 {
     let mut found = Vec::new(alloc);
-    if !add_moves(&path.sim, rank, &mut found)? {
+    if !add_moves(path.sim.as_sim(), rank, &mut found)? {
         return Ok(false);
     }
     let Some(last) = last_of(&found) else {

@@ -18,6 +18,7 @@ use crate::bounds::Limits;
 use crate::explored::FoundOutcome;
 use crate::last_shown::LastShown;
 use crate::replay::run_of;
+use crate::resting::RestingSim;
 use crate::send_mode::SendMode;
 use crash_free::{Act, Passed, Sim};
 use limits::Heap;
@@ -93,7 +94,7 @@ fn misses_shown(
     ensures yes { result ≡ Ok (Some true) → MissesShown (start_of program.now ranks) (reverse acts.now) }
     ensures no { result ≡ Ok (Some false) → MissesShown (start_of program.now ranks) (reverse acts.now) → ⊥ }
 {
-    let mut sim = Sim::new(alloc, program, ranks)?;
+    let mut sim = RestingSim::new(alloc, program, ranks)?;
     let mut shown = LastShown::new(alloc);
     for at in 0..acts.len() {
         let Some(past) = follow(&mut sim, &mut shown, act_at(acts, at), steps)? else {
@@ -109,7 +110,7 @@ fn misses_shown(
 // Makes the act, and answers whether it misses a message that its rank was shown.
 #[tactic(auto, using(crate::proofs::Shown::may_inside, crate::proofs::Shown::miss_before, crate::proofs::Shown::miss_behind))]
 fn follow(
-    sim: &mut Sim<'_>,
+    sim: &mut RestingSim<'_>,
     shown: &mut LastShown,
     passed: &Passed,
     steps: u32,
@@ -130,7 +131,7 @@ fn follow(
     if sim.stride(rank, steps) == steps {
         return Ok(None);
     }
-    let past = misses_past(sim, shown, rank, &passed.act);
+    let past = misses_past(sim.as_sim(), shown, rank, &passed.act);
     make(sim, rank, &passed.act)?;
     shown.note(passed)?;
     Ok(Some(past))

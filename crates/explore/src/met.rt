@@ -176,9 +176,10 @@ fn state_of(
     ensures knows { IfOk result (λ _. Knows live.now sim.now.program (length sim.now.machines) sim.now.run parts.new last.new) }
 {
     let ranks = sim.ranks();
-    let Some(first) = first_place(parts, part, sim, closes)? else {
+    let Some(first) = first_place(parts, part, last.length, sim, closes)? else {
         return Ok(None);
     };
+    last.length = first;
     let mut rank = 0;
     while rank < ranks {
         if !find_rank(parts, part, last, sim, live, rank)? {
@@ -190,10 +191,12 @@ fn state_of(
     Ok(Some(State::new(alloc, first, last.first(ranks))?))
 }
 
-// The place of how long the run is, or of nothing if the search closes over states.
+// The place of how long the run is, or of nothing if the search closes over states. It is the one that
+// is near, if the same stands there.
 fn first_place(
     parts: &mut StandingParts,
     part: &mut Standing,
+    near: u32,
     sim: &Sim<'_>,
     closes: bool,
 ) -> Result<Option<u32>, AllocError>
@@ -203,6 +206,9 @@ fn first_place(
     part.clear();
     if !closes {
         sim.write_length(part)?;
+    }
+    if parts.has_at(near, part) {
+        return Ok(Some(near));
     }
     parts.place_of(part)
 }

@@ -150,7 +150,8 @@ impl<'p> Search<'p> {
             → (self.old.out_of_steps ≡ true → GoesBeyond mode self.old.path.sim.program (length self.old.path.sim.machines) steps)
             → self.new.out_of_steps ≡ true → GoesBeyond mode self.old.path.sim.program (length self.old.path.sim.machines) steps) }
     {
-        self.last.go_back(self.path.sim.acts(), branch.shared);
+        self.last
+            .go_back(self.path.sim.as_sim().acts(), branch.shared);
         if !take_up(mode, &mut self.path, &mut self.stops, branch)? {
             self.out_of_steps = true;
             return Ok(true);
@@ -168,8 +169,8 @@ impl<'p> Search<'p> {
             &mut self.races,
         )? {
             PathEnd::Still => {
-                let ranks = outcome_of(alloc, mode, &self.path.sim)?;
-                let left = self.path.sim.left()?;
+                let ranks = outcome_of(alloc, mode, self.path.sim.as_sim())?;
+                let left = self.path.sim.as_sim().left()?;
                 self.found.note(ranks, left, self.path.choices.as_slice())?;
                 Ok(true)
             }

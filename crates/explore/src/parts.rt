@@ -5,7 +5,8 @@ ghost use Rattle.explore.specs.Parts.{KeepsParts};
 use crash_free::Standing;
 use limits::Heap;
 use std::alloc::AllocError;
-use std::collections::BTreeMap;
+use std::collections::HashMap;
+use std::hash::{BuildHasherDefault, FoldHasher};
 use std::marker::Model;
 
 /// What a part takes beside its own numbers, in numbers of 8 bytes: two vectors
@@ -20,7 +21,7 @@ pub struct StandingParts {
     // oldest first
     kept: Vec<Standing, Heap>,
     // where the last one of each hash is among them
-    by_hash: BTreeMap<u64, u32, Heap>,
+    by_hash: HashMap<u64, u32, BuildHasherDefault<FoldHasher>, Heap>,
     // how many numbers, of 8 bytes each, may still be kept
     room: usize,
     // whether new parts are kept
@@ -44,7 +45,7 @@ impl StandingParts {
         StandingParts {
             alloc,
             kept: Vec::new(alloc),
-            by_hash: BTreeMap::new(alloc),
+            by_hash: HashMap::new(alloc),
             room,
             keeps_new: true,
         }
@@ -76,6 +77,13 @@ impl StandingParts {
         ensures { IfSome result (λ part. slice_get self.now place ≡ Some part.now) }
     {
         self.kept.get(place as usize)
+    }
+
+    /// Whether this part stands at the place.
+    pub fn has_at(&self, place: u32, part: &Standing) -> bool
+        ensures { result ≡ true → slice_get self.now place ≡ Some part.now }
+    {
+        is_at(&self.kept, place as usize, part)
     }
 
     // A place is exact. A part may have none here though it is kept, if another

@@ -7,6 +7,7 @@ ghost use Rattle.explore.specs.Chosen.{IsNoteAt};
 
 use crate::moves::{Move, Noted};
 use crate::races::asks_to_probe;
+use crate::resting::RestingSim;
 use crash_free::Sim;
 use limits::{Heap, MOST_RANKS};
 use rank_language::Program;
@@ -15,7 +16,7 @@ use std::alloc::AllocError;
 /// A run, with what a search notes of it.
 #[derive(Drop)]
 pub struct Path<'p> {
-    pub sim: Sim<'p>,
+    pub sim: RestingSim<'p>,
     /// How many steps each rank has left.
     pub left: [u32; MOST_RANKS],
     /// The moves that were made when there were others too, the first one
@@ -46,7 +47,7 @@ impl<'p> Path<'p> {
         ensures none { IfOk result (λ path. path.choices.items ≡ []) }
     {
         Ok(Path {
-            sim: Sim::new(alloc, program, ranks)?,
+            sim: RestingSim::new(alloc, program, ranks)?,
             left: [steps; MOST_RANKS],
             choices: Vec::new(alloc),
         })
@@ -66,7 +67,7 @@ impl<'p> Path<'p> {
         ensures choices { OnOk result ((mode : SendMode) → IsReleasedAt mode self.old.sim chosen.rank → KeepsChoices mode self.old self.new) }
     {
         let _ = self.sim.ranks();
-        let noted = noted(&self.sim, chosen);
+        let noted = noted(self.sim.as_sim(), chosen);
         // a choice of `moves` is allowed, so there was no memory
         if self.sim.act(chosen.rank, chosen.choice).is_err() {
             return Err(AllocError);

@@ -6,7 +6,8 @@ use crate::parts::StandingParts;
 use crate::state::State;
 use limits::Heap;
 use std::alloc::AllocError;
-use std::collections::BTreeMap;
+use std::collections::HashMap;
+use std::hash::{BuildHasherDefault, FoldHasher};
 use std::marker::Model;
 
 /// States, of which no more are kept than so many and than there is room for.
@@ -15,7 +16,7 @@ pub struct States {
     // oldest first
     kept: Vec<State, Heap>,
     // where the last one of each hash is among them, so that no search walks them
-    by_hash: BTreeMap<u64, usize, Heap>,
+    by_hash: HashMap<u64, usize, BuildHasherDefault<FoldHasher>, Heap>,
     most: u32,
     kept_all: bool,
 }
@@ -35,7 +36,7 @@ impl States {
     {
         States {
             kept: Vec::new(alloc),
-            by_hash: BTreeMap::new(alloc),
+            by_hash: HashMap::new(alloc),
             most,
             kept_all: true,
         }

@@ -13,11 +13,12 @@ const APART: usize = 2;
 /// How many stops are kept at most, besides the first.
 const MOST_STOPS: usize = 32;
 
-/// A point of a run, and how many steps each rank had left there.
+/// A point of a run, how many steps each rank had left there, and which were known to rest.
 #[derive(Drop)]
 pub struct Stop<'p> {
     pub point: Point<'p>,
     pub left: [u32; MOST_RANKS],
+    pub marks: [bool; MOST_RANKS],
 }
 
 /// Stops of the run that was played last, so that a branch which goes off it is
@@ -72,7 +73,7 @@ impl<'p> Stops<'p> {
     pub fn note(&mut self, path: &Path<'p>) -> Result<(), AllocError>
         ensures { OnOk result (KeepsStops path.now.sim path.now.left self.old path.now.sim path.now.left self.new) }
     {
-        let made = path.sim.acts().len();
+        let made = path.sim.as_sim().acts().len();
         if made.saturating_sub(self.closest().point.made()) < APART {
             return Ok(());
         }
@@ -133,5 +134,6 @@ fn stop_at<'p>(path: &Path<'p>) -> Result<Stop<'p>, AllocError>
     Ok(Stop {
         point: path.sim.point()?,
         left: path.left,
+        marks: path.sim.marks(),
     })
 }

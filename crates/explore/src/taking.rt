@@ -18,9 +18,10 @@ use crate::again::{act_at, make};
 use crate::branch::Branch;
 use crate::moves::Move;
 use crate::path::Path;
+use crate::resting::RestingSim;
 use crate::send_mode::SendMode;
 use crate::stops::Stops;
-use crash_free::{Passed, Sim};
+use crash_free::Passed;
 use limits::{Heap, MOST_RANKS};
 use std::alloc::AllocError;
 
@@ -77,7 +78,7 @@ fn make_first<'p>(
     let _ = path.sim.ranks();
     stops.drop_behind(shared);
     let since = go_back(path, stops)?;
-    let count = shared - path.sim.acts().len();
+    let count = shared - path.sim.as_sim().acts().len();
     make_again(path, stops, since.as_slice(), count)
 }
 
@@ -92,7 +93,7 @@ fn go_back<'p>(path: &mut Path<'p>, stops: &Stops<'p>) -> Result<Vec<Passed, Hea
         → CanGoBack steps path.new.sim path.new.left stops.now) }
 {
     let stop = stops.closest();
-    let since = path.sim.go_back(&stop.point)?;
+    let since = path.sim.go_back(&stop.point, stop.marks)?;
     path.left = stop.left;
     Ok(since)
 }
@@ -127,7 +128,7 @@ fn make_again<'p>(
 
 // Makes this act, and before it the steps of its rank's own.
 fn repeat(
-    sim: &mut Sim<'_>,
+    sim: &mut RestingSim<'_>,
     left: &mut [u32; MOST_RANKS],
     passed: &Passed,
 ) -> Result<(), AllocError>
@@ -151,7 +152,7 @@ fn repeat(
 
 // Makes steps of the rank's own until it asks for an act. Answers whether it has a step left for
 // that.
-fn comes_to_act(sim: &mut Sim<'_>, left: &mut [u32; MOST_RANKS], rank: u8) -> bool
+fn comes_to_act(sim: &mut RestingSim<'_>, left: &mut [u32; MOST_RANKS], rank: u8) -> bool
     requires there { rank < length sim.old.machines }
     requires few { length sim.old.machines ≤ most_ranks }
     ensures alike { IsAlike sim.old sim.new }

@@ -31,7 +31,7 @@ loop-at-preserved c =
     let back : c.loop-at.at ≡ (c.loop-at.at - 1) + 1 = omega (arith, c.loop-at-test.true) in
     let m : Move = get_or c.args.moves.now (c.loop-at.at - 1) (move_of 0 Next) in
     let b : Branch = record { shared = length c.acts-shared.result.now; chosen = Some m; choices = c.len-choices.result } in
-    let all : length c.acts-shared.result.now ≡ length s.run = ap length c.acts-shared.ensures ∙ length-reverse s.run in
+    let all : length c.acts-shared.result.now ≡ length s.run = ap length (rw c.as_sim.ensures at c.acts-shared.ensures) ∙ length-reverse s.run in
     let more =
     branches_more c.args.mode s c.args.moves.now (c.loop-at.at - 1) m (stems_of s.run c.args.pending.now.items) (stems_of s.run c.loop-at.pending.items)
     (slice_get-get_or c.args.moves.now (c.loop-at.at - 1) (move_of 0 Next) low)

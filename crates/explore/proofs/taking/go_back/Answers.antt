@@ -1,10 +1,14 @@
 use Rattle.std.proofs.Common.{refl}
-use Rattle.explore.proofs.Stopping.{back_point, back_short, back_there}
+use Rattle.explore.proofs.Stopping.{back_point, back_resting, back_short, back_there}
 use Rattle.explore.proofs.taking.go_back.Goals as goal
 
-pub go_back-requires : goal.go_back-requires
-go_back-requires c =
+pub go_back-requires-clause-point : goal.go_back-requires-clause-point
+go_back-requires-clause-point c =
     back_point c.args.path.now.sim c.args.stops.now c.closest-stop.result.now c.closest-stop.ensures c.requires.stops.0 c.requires.stops.1
+
+pub go_back-requires-clause-marks : goal.go_back-requires-clause-marks
+go_back-requires-clause-marks c =
+    back_resting c.args.path.now.sim c.args.stops.now c.closest-stop.result.now c.closest-stop.ensures c.requires.stops.0 c.requires.stops.1
 
 pub returns-clause-short : goal.returns-clause-short
 returns-clause-short c =

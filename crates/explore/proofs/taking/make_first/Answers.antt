@@ -20,7 +20,7 @@ overflow_sub-count c =
     c.requires.back.1.of_run in
     let short = c.in_ok-since.ensures.short c.args.shared
     (all_within s.program (length s.machines) c.requires.back.0 s.run c.drop_behind.new.self c.args.shared are c.drop_behind.ensures.within) in
-    let size : length c.acts.result.now ≡ length c.go_back.new.path.sim.run = ap length c.acts.ensures ∙ length-reverse c.go_back.new.path.sim.run in
+    let size : length c.acts.result.now ≡ length c.go_back.new.path.sim.run = ap length (rw c.as_sim.ensures at c.acts.ensures) ∙ length-reverse c.go_back.new.path.sim.run in
     omega (arith, size, short)
 
 pub make_again-requires-clause-back : goal.make_again-requires-clause-back
@@ -44,7 +44,7 @@ returns-clause-made c =
     c.requires.back.1.of_run in
     let short = c.in_ok-since.ensures.short c.args.shared
     (all_within s.program (length s.machines) c.requires.back.0 s.run c.drop_behind.new.self c.args.shared are c.drop_behind.ensures.within) in
-    let size : length c.acts.result.now ≡ length c.go_back.new.path.sim.run = ap length c.acts.ensures ∙ length-reverse c.go_back.new.path.sim.run in
+    let size : length c.acts.result.now ≡ length c.go_back.new.path.sim.run = ap length (rw c.as_sim.ensures at c.acts.ensures) ∙ length-reverse c.go_back.new.path.sim.run in
     let t = c.go_back.new.path.sim in
     let acts = c.as_slice.result.now in
     let whole : reverse acts ++ t.run ≡ s.run =

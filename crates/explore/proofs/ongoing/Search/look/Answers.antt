@@ -1,6 +1,7 @@
 use Rattle.std.proofs.Common.{◌≡◌, true, false, length, refl, sym, ap, ◌∙◌, subst, arith}
 use Rattle.std.proofs.lemmas.List.{length-reverse}
 use Rattle.std.specs.Prelude.{Ok}
+use Rattle.explore.specs.Sending.{HasRunUnder}
 use Rattle.explore.specs.Stems.{stems_of}
 use Rattle.explore.specs.Tables.{AreTablesOf}
 use Rattle.explore.proofs.Going.{fewer_cut, fewer_looked, off_now, on_cut, on_looked}
@@ -62,7 +63,7 @@ returns-in_ok-note-in-Still-clause-on c =
     c.play.new.path.sim.run c.play.new.pending.items) c.args.self.now.found c.note.new.self
     c.args.self.now.met c.play.new.met (record { ranks = c.in_ok-ranks-in-Still.ranks.items; left = c.in_ok-left-in-Still.left.items })
     c.in_ok-play.ensures.plays c.in_ok-play.ensures.remembers
-    (record { outcome = c.in_ok-ranks-in-Still.ensures; left = c.in_ok-left-in-Still.ensures }) c.in_ok-note-in-Still.ensures)
+    (record { outcome = rw c.as_sim-in-Still.ensures at c.in_ok-ranks-in-Still.ensures; left = rw c.as_sim-in-Still-2.ensures at c.in_ok-left-in-Still.ensures }) c.in_ok-note-in-Still.ensures)
     (λ e. (e, refl))
 
 pub returns-in-Met-clause-on : goal.returns-in-Met-clause-on
@@ -151,12 +152,13 @@ pub take_up-requires-clause-is_run : goal.take_up-requires-clause-is_run
 take_up-requires-clause-is_run c = c.requires.on.is_run
 
 pub outcome_of-requires-clause-is_run : goal.outcome_of-requires-clause-is_run
-outcome_of-requires-clause-is_run c = c.in_ok-play.ensures.plays.runs c.in_ok-take_up.ensures.is_run
+outcome_of-requires-clause-is_run c =
+    subst (λ z. HasRunUnder c.args.mode z) (sym c.as_sim-in-Still.ensures) (c.in_ok-play.ensures.plays.runs c.in_ok-take_up.ensures.is_run)
 
 pub go_back-requires : goal.go_back-requires
 go_back-requires c =
     let within = c.requires.knows.within in
-    let long : length c.acts.result.now ≡ length c.args.self.now.path.sim.run = ap length c.acts.ensures ∙ length-reverse c.args.self.now.path.sim.run in
+    let long : length c.acts.result.now ≡ length c.args.self.now.path.sim.run = ap length (rw c.as_sim.ensures at c.acts.ensures) ∙ length-reverse c.args.self.now.path.sim.run in
     omega (arith, within, long)
 
 pub play-requires-clause-knows : goal.play-requires-clause-knows
@@ -168,7 +170,7 @@ play-requires-clause-knows c =
     c.in_ok-take_up.ensures.alike
     (knows_shared c.args.tables.now.live s.program (length s.machines) s.run c.take_up.new.path.sim.run c.args.self.now.met.parts c.go_back.new.self
     (omega (arith, within, long)) (c.in_ok-take_up.ensures.shares c.go_back.new.self.shared within)
-    (c.go_back.ensures.knows c.args.tables.now.live s.program (length s.machines) s.run c.args.self.now.met.parts c.acts.ensures c.requires.knows))
+    (c.go_back.ensures.knows c.args.tables.now.live s.program (length s.machines) s.run c.args.self.now.met.parts (rw c.as_sim.ensures at c.acts.ensures) c.requires.knows))
 
 pub returns-then-not-branch-clause-knows : goal.returns-then-not-branch-clause-knows
 returns-then-not-branch-clause-knows c =
@@ -177,7 +179,7 @@ returns-then-not-branch-clause-knows c =
     let within = c.go_back.ensures.within in
     knows_shared c.args.tables.now.live s.program (length s.machines) s.run c.take_up.new.path.sim.run c.args.self.now.met.parts c.go_back.new.self
     (omega (arith, within, long)) (c.in_ok-take_up.ensures.shares c.go_back.new.self.shared within)
-    (c.go_back.ensures.knows c.args.tables.now.live s.program (length s.machines) s.run c.args.self.now.met.parts c.acts.ensures c.requires.knows)
+    (c.go_back.ensures.knows c.args.tables.now.live s.program (length s.machines) s.run c.args.self.now.met.parts (rw c.as_sim.ensures at c.acts.ensures) c.requires.knows)
 
 pub returns-in_ok-note-in-Still-clause-knows : goal.returns-in_ok-note-in-Still-clause-knows
 returns-in_ok-note-in-Still-clause-knows c =

@@ -30,7 +30,7 @@ returns-clause-choices c = λ mode free.
       | then-others+in_ok-push w ↦
           (let sim : c.if-others.self.sim ≡ c.act.new.self = ap (λ z. z.sim) w.self-is in
           choice_made mode c.args.self.now c.if-others.self c.args.chosen c.noted-noted.result c.ranks.ensures.stands (rw sim c.act.ensures.stands)
-          c.requires.at free (allowed c.if-others.self.sim sim) c.noted-noted.ensures
+          c.requires.at free (allowed c.if-others.self.sim sim) (rw c.as_sim.ensures at c.noted-noted.ensures)
           (ap (λ z. z.choices.items) w.self-is ∙ w.in_ok-push.ensures.items))
       | else-others w ↦
           (let sim : c.if-others.self.sim ≡ c.act.new.self = ap (λ z. z.sim) w.self-is in
