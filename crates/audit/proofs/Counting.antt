@@ -3,7 +3,7 @@ use Rattle.std.proofs.Common.{◌≡◌, ℕ, zero, suc, ◌+◌, ◌-◌, ◌<�
 use Rattle.std.proofs.Common.{refl, sym, ap, subst, ◌∙◌, arith, length-append}
 use Rattle.std.specs.Prelude.{SomeIff, option_map}
 use Rattle.std.proofs.lemmas.List.{take_more, map-append}
-use Rattle.std.proofs.lemmas.Option.{slice_get_within, slice_get_read, slice_get-map, get_or_from_slice_get}
+use Rattle.std.proofs.lemmas.Option.{slice_get_within, slice_get_read, slice_get-map, slice_get-get_or, get_or_from_slice_get, none-some}
 use Rattle.event_logger.specs.Sequential.Event.{EventValue, event_of, acts_of, count_of, IsEvent}
 use Rattle.event_logger.specs.Sequential.Misses.{misses_after, parts_at, parts_of}
 use Rattle.event_logger.specs.declared.sequential.kind.Kind.{Kind}
@@ -35,6 +35,10 @@ ends_rise k (e ∷ events) zero (suc j) le low = ends_high (k + count_of e) even
 ends_rise k (e ∷ events) (suc i) zero le low = absurd (omega (arith, le))
 ends_rise k (e ∷ events) (suc i) (suc j) le low = ends_rise (k + count_of e) events i j (omega (arith, le)) (omega (arith, low))
 
+-- the first of some events stands for so many acts, and the others for the rest
+expand_length : (x : EventValue) (events : List EventValue) → length (expand (x ∷ events)) ≡ count_of x + length (expand events)
+expand_length x events = length-append (parts_of x) (expand events) ∙ ap (λ n. n + length (expand events)) (parts_length x)
+
 -- one event more
 ends_push : (k : ℕ) (events : List EventValue) (e : EventValue)
     → ends_from k (events ++ e ∷ []) ≡ ends_from k events ++ (k + length (expand events) + count_of e) ∷ []
@@ -44,9 +48,26 @@ ends_push k (x ∷ events) e =
     ∙ (let sum = expand_length x events in
     let z : k + count_of x + length (expand events) + count_of e ≡ k + length (expand (x ∷ events)) + count_of e = omega (arith, sum) in
     ap (λ n. ends_from (k + count_of x) events ++ n ∷ []) z))
-  where
-    expand_length : (x : EventValue) (events : List EventValue) → length (expand (x ∷ events)) ≡ count_of x + length (expand events)
-    expand_length x events = length-append (parts_of x) (expand events) ∙ ap (λ n. n + length (expand events)) (parts_length x)
+
+-- the last is as many as they all stand for
+pub last_end : (k : ℕ) (events : List EventValue) (end : ℕ) → slice_get (ends_from k events) (length (ends_from k events) - 1) ≡ Some end
+    → end ≡ k + length (expand events)
+last_end k [] end at = absurd cc
+last_end k (x ∷ []) end at =
+    let same : k + count_of x ≡ end = cc in
+    let long = expand_length x [] in
+    omega (arith, same, long)
+last_end k (x ∷ (y ∷ events)) end at =
+    let rest = last_end (k + count_of x) (y ∷ events) end (let z : length (ends_from k (x ∷ (y ∷ events))) - 1 ≡ suc (length (ends_from (k + count_of x) (y ∷ events)) - 1) = omega arith in
+    ap (slice_get (ends_from k (x ∷ (y ∷ events)))) (sym z) ∙ at) in
+    let long = expand_length x (y ∷ events) in
+    omega (arith, rest, long)
+
+-- without a last they stand for none
+pub no_end : (events : List EventValue) → slice_get (ends_from 0 events) (length (ends_from 0 events) - 1) ≡ None → 0 ≡ length (expand events)
+no_end [] at = refl
+no_end (x ∷ events) at =
+    absurd (none-some _ (sym at ∙ slice_get-get_or (ends_from 0 (x ∷ events)) (length (ends_from 0 (x ∷ events)) - 1) 0 (omega arith)))
 
 -- a number is that of the event before and how many acts its event stands for
 ends_step : (k : ℕ) (events : List EventValue) (i : ℕ) (e : EventValue) → slice_get events (suc i) ≡ Some e

@@ -199,12 +199,3 @@ begins_by (x ∷ xs) (y ∷ ys) same =
     let first : Some y ≡ Some x = same 0 (omega arith) in
     let head : y ≡ x = cc in
     (rest.0, ap (λ z. z ∷ ys) head ∙ ap (λ zs. x ∷ zs) rest.1)
-
--- one place more at which they are the same
-pub same_more : {A : Type 0} (xs ys : List A) (n : ℕ) (x y : A) → ((i : ℕ) → i < n → slice_get ys i ≡ slice_get xs i) → slice_get ys n ≡ Some y → slice_get xs n ≡ Some x
-    → y ≡ x → (i : ℕ) → i < n + 1 → slice_get ys i ≡ slice_get xs i
-same_more xs ys n x y before here there same i low = go (cases_eq i n)
-  where
-    go : (i ≡ n) ⊎ (i ≡ n → ⊥) → slice_get ys i ≡ slice_get xs i
-    go (inl e) = rw e (here ∙ ap Some same ∙ sym there)
-    go (inr apart) = before i (omega (arith, low, apart))

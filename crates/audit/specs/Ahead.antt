@@ -1,6 +1,7 @@
 -- An audit that goes on while the ranks of a run still do. It takes the events of each rank as they
 -- come, and what it made counts once an outcome is seen to begin with it.
-use Rattle.std.specs.Prelude.{◌≡◌, ◌≢◌, ℕ, List, [], ◌∷◌, ◌++◌, length, Some, slice_get}
+use Rattle.std.specs.Prelude.{◌≡◌, ◌≢◌, ℕ, ◌≤◌, List, [], ◌∷◌, ◌++◌, length, Option, Some, IfSome, slice_get}
+use Rattle.limits.specs.Limits.{most_ranks}
 use Rattle.event_logger.specs.Sequential.Event.{EventValue}
 use Rattle.rank_language.specs.Program.{ProgramValue}
 use Rattle.crash_free.specs.Sim.{SimValue}
@@ -50,3 +51,9 @@ pub record IsAhead (a : AheadValue) (p : ProgressValue) : Type 0 where
   pub size : length p.sim.machines ≡ a.ranks
   pub progress : IsProgress p
   pub counts : (r k : ℕ) → slice_get p.left r ≡ Some k → HasLeft p.sim r a.steps k
+
+-- so many ranks a run may have, and what was made of it, if anything, is ahead
+pub record HasMade (a : AheadValue) (made : Option ProgressValue) : Type 0 where
+  pub some : 1 ≤ a.ranks
+  pub few : a.ranks ≤ most_ranks
+  pub ahead : IfSome made (IsAhead a)

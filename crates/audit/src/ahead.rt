@@ -1,5 +1,5 @@
 //! An audit that begins while the ranks still run.
-ghost use Rattle.std.specs.Prelude.{◌≡◌, ◌≤◌, IfOk};
+ghost use Rattle.std.specs.Prelude.{◌≡◌, ◌≤◌, length, IfOk};
 ghost use Rattle.limits.specs.Limits.{most_ranks};
 ghost use Rattle.audit.specs.Ahead.{IsAhead};
 ghost use Rattle.audit.specs.Counts.{AreCounted};
@@ -15,9 +15,9 @@ use std::alloc::AllocError;
 use std::marker::Model;
 
 /// A run of a program without crashes that is made before its outcome is known, from
-/// the events that ranks have stored so far. An audit goes on with it if the outcome
-/// begins with what it has made, and else from the beginning: so whatever events it is
-/// given, an audit answers the same.
+/// the events that ranks have stored so far. What it has made counts only if the outcome
+/// begins with it; else an audit goes on from the beginning. Whichever events it is given,
+/// the contract of the audit holds, whose clauses name neither them nor how far it went.
 #[derive(Drop)]
 pub struct Ahead<'p> {
     program: &'p Program,
@@ -28,11 +28,9 @@ pub struct Ahead<'p> {
 }
 
 impl<'p> Model for Ahead<'p> {
-    ghost use Rattle.std.specs.Prelude.{◌≤◌, IfSome};
     ghost use Rattle.std.specs.Coded.{codes};
-    ghost use Rattle.limits.specs.Limits.{most_ranks};
     ghost use Rattle.rank_language.specs.Coding.{placed_code};
-    ghost use Rattle.audit.specs.Ahead.{AheadValue, IsAhead};
+    ghost use Rattle.audit.specs.Ahead.{AheadValue, HasMade};
 
     ghost Value = { AheadValue };
 
@@ -40,7 +38,7 @@ impl<'p> Model for Ahead<'p> {
 
     ghost view = { λ a. record { program = a.program.now; ranks = a.ranks; steps = a.steps } };
 
-    ghost invariant = { λ a. (1 ≤ a.ranks) × (a.ranks ≤ most_ranks) × IfSome a.progress (IsAhead (record { program = a.program.now; ranks = a.ranks; steps = a.steps })) };
+    ghost invariant = { λ a. HasMade (record { program = a.program.now; ranks = a.ranks; steps = a.steps }) a.progress };
 }
 
 impl<'p> Ahead<'p> {
@@ -107,6 +105,7 @@ impl<'p> Ahead<'p> {
         alloc: Heap,
         goal: &Goal<'_>,
     ) -> Result<Progress<'p>, AllocError>
+        requires rows { length goal.now.outcome.now.rows ≡ self.ranks }
         requires sorted { IsSorted self.ranks goal.now.outcome.now.lines goal.now.lines.now }
         requires counted { AreCounted goal.now.outcome.now.rows goal.now.counts.now }
         ensures ahead { IfOk result (IsAhead self.entry) }

@@ -1,7 +1,7 @@
 //! How many acts the stored events of a rank stand for.
-ghost use Rattle.std.specs.Prelude.{◌≡◌, ◌<◌, ◌-◌, length, slice_get, true, IfSome, IfNone, IfOk};
+ghost use Rattle.std.specs.Prelude.{◌≡◌, ◌≢◌, ◌<◌, ◌-◌, List, length, slice_get, true, false, IfSome, IfNone, IfOk};
 ghost use Rattle.limits.specs.Limits.{greatest_clock};
-ghost use Rattle.event_logger.specs.Sequential.Event.{count_of};
+ghost use Rattle.event_logger.specs.Sequential.Event.{EventValue, count_of};
 ghost use Rattle.event_logger.specs.Sequential.Misses.{parts_of};
 ghost use Rattle.crash_free.specs.Parts.{IsBeginning};
 ghost use Rattle.audit.specs.Rows.{expand};
@@ -63,22 +63,33 @@ impl ActCounts {
     /// Whether the events of the first acts, one for each, are these.
     pub fn begin_with(&self, events: &[Event], others: &[Event]) -> bool
         requires { self.now ≡ ends_from 0 events.now }
-        ensures { result ≡ true → IsBeginning others.now (expand events.now) }
+        ensures yes { result ≡ true → IsBeginning others.now (expand events.now) }
+        ensures no { result ≡ false → IsBeginning others.now (expand events.now) → ⊥ }
     {
-        let mut at = 0;
-        while at < others.len() {
-            let Ok(done) = u32::try_from(at) else {
-                return false;
-            };
+        if others.len() > self.total() as usize {
+            return false;
+        }
+        let mut done = 0;
+        while (done as usize) < others.len() {
             let Some(event) = self.event_after(events, done) else {
                 return false;
             };
-            if !is_same(event, others[at]) {
+            if !is_same(event, others[done as usize]) {
                 return false;
             }
-            at += 1;
+            done += 1;
         }
         true
+    }
+
+    /// How many acts all events stand for.
+    fn total(&self) -> u32
+        ensures { (events : List EventValue) → self.now ≡ ends_from 0 events → result ≡ length (expand events) }
+    {
+        match self.ends.as_slice().last() {
+            Some(end) => *end,
+            None => 0,
+        }
     }
 
     /// The place of the event that stands for the act after so many.
@@ -133,7 +144,8 @@ pub fn count(alloc: Heap, outcome: &Outcome) -> Result<Option<Vec<ActCounts, Hea
 }
 
 fn is_same(event: Event, other: Event) -> bool
-    ensures { result ≡ true → event ≡ other }
+    ensures yes { result ≡ true → event ≡ other }
+    ensures no { result ≡ false → event ≢ other }
 {
     event == other
 }

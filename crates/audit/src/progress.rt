@@ -1,5 +1,5 @@
 //! How far a run has come that is made ahead of its outcome.
-ghost use Rattle.std.specs.Prelude.{◌≡◌, ◌<◌, ◌≤◌, ℕ, List, [], length, map, replicate, slice_get, Some, true, IfOk};
+ghost use Rattle.std.specs.Prelude.{◌≡◌, ◌<◌, ◌≤◌, ℕ, List, [], length, map, replicate, slice_get, Some, true, false, IfOk};
 ghost use Rattle.limits.specs.Limits.{most_ranks};
 ghost use Rattle.event_logger.specs.Sequential.Event.{EventValue};
 ghost use Rattle.crash_free.specs.Parts.{IsBeginning};
@@ -87,9 +87,11 @@ impl<'p> Progress<'p> {
     /// Whether the outcome's rows and lines begin with those of the run.
     pub fn is_within(&self, goal: &Goal<'_>) -> bool
         requires progress { IsProgress self.now }
+        requires rows { length goal.now.outcome.now.rows ≡ length self.now.sim.machines }
         requires sorted { IsSorted (length self.now.sim.machines) goal.now.outcome.now.lines goal.now.lines.now }
         requires counted { AreCounted goal.now.outcome.now.rows goal.now.counts.now }
-        ensures { result ≡ true → IsWithin goal.now.outcome.now self.now.sim }
+        ensures yes { result ≡ true → IsWithin goal.now.outcome.now self.now.sim }
+        ensures no { result ≡ false → IsWithin goal.now.outcome.now self.now.sim → ⊥ }
     {
         for place in 0..goal.outcome.rows_count() {
             if !self.begins_row(place, goal) {
@@ -107,14 +109,14 @@ impl<'p> Progress<'p> {
     // Whether the row of this rank begins with the events that it has made.
     fn begins_row(&self, place: usize, goal: &Goal<'_>) -> bool
         requires progress { IsProgress self.now }
+        requires rank { place < length self.now.sim.machines }
         requires place { place < length goal.now.outcome.now.rows }
         requires counted { AreCounted goal.now.outcome.now.rows goal.now.counts.now }
-        ensures { result ≡ true → (events : List EventValue) → slice_get goal.now.outcome.now.rows place ≡ Some events
+        ensures yes { result ≡ true → (events : List EventValue) → slice_get goal.now.outcome.now.rows place ≡ Some events
             → IsBeginning (row self.now.sim.run place) (expand events) }
+        ensures no { result ≡ false → (events : List EventValue) → slice_get goal.now.outcome.now.rows place ≡ Some events
+            → IsBeginning (row self.now.sim.run place) (expand events) → ⊥ }
     {
-        if place >= self.taken.len() {
-            return false;
-        }
         let taken = self.taken[place].as_slice();
         let outcome = goal.outcome;
         let row = outcome.rows[place].as_slice();

@@ -1,10 +1,10 @@
 -- Beginnings of a run, and points of it: they stay points of each run that begins with the same acts.
-use Rattle.std.proofs.Common.{◌≡◌, ℕ, ℤ, zero, suc, ◌≤◌, ◌-◌, ◌+◌, List, [], ◌∷◌, ◌++◌, length, refl, sym, ap, subst, ◌∙◌, arith}
+use Rattle.std.proofs.Common.{◌≡◌, ℕ, ℤ, zero, suc, ◌≤◌, ◌-◌, ◌+◌, List, [], ◌∷◌, ◌++◌, length, refl, sym, ap, subst, ◌∙◌, arith, Bool}
 use Rattle.std.specs.Prelude.{drop, reverse, take, Some, slice_get}
 use Rattle.std.proofs.lemmas.List.{append_assoc, length-append, length-reverse, length-take-le, reverse-append, reverse-reverse, take-append-drop}
 use Rattle.rank_language.specs.Program.{ProgramValue}
 use Rattle.crash_free.specs.Runs.{Passed}
-use Rattle.crash_free.specs.Points.{PointValue, first_acts, GoesBehind, IsPointOf, stood, AreOfOneProgram}
+use Rattle.crash_free.specs.Points.{PointValue, first_acts, GoesBehind, IsPointOf, stood, AreUnmoved}
 use Rattle.rank_machine.specs.Machine.{MachineValue}
 use Rattle.crash_free.specs.Sim.{SimValue}
 use Rattle.crash_free.specs.Slots.{Slot, IsKept}
@@ -128,10 +128,12 @@ pub as_many : {program : ProgramValue} {machines : List MachineValue} {C : List 
     → q ≡ p → IsPointOf now.program (length now.machines) now.run p → length machines ≡ length q.machines
 as_many view same point = ap (λ (v : SimValue). length v.machines) view ∙ sym point.ranks ∙ sym (ap (λ (z : PointValue). length z.machines) same)
 
--- and they are of the same program
-pub of_one_program : {program : ProgramValue} {machines : List MachineValue} {channels : List (List Slot)} {C : List Passed} {now : SimValue} {p q : PointValue}
-    → IsKept program machines channels C → value_of program machines C ≡ now → q ≡ p → IsPointOf now.program (length now.machines) now.run p
-    → AreOfOneProgram machines q.machines
-of_one_program {q = q} kept view same point = λ r m other at there.
-    (kept.ranks r m at).program_same ∙ ap (λ (v : SimValue). v.program) view
-    ∙ sym (point.kept.ranks r other (subst (λ (z : PointValue). slice_get z.machines r ≡ Some other) same there)).program_same
+-- and those without a move are the same
+pub still_unmoved : {program : ProgramValue} {machines : List MachineValue} {C : List Passed} {now : SimValue} {p q : PointValue} (marks : List Bool)
+    → value_of program machines C ≡ now → q ≡ p → AreUnmoved now.machines p.machines marks → AreUnmoved machines q.machines marks
+still_unmoved marks view same unmoved = λ r marked.
+    ap (λ (v : SimValue). slice_get v.machines r) view ∙ unmoved r marked ∙ sym (ap (λ (z : PointValue). slice_get z.machines r) same)
+
+-- what stands at one place is one machine
+pub one_there : {m other : MachineValue} → Some m ≡ Some other → m ≡ other
+one_there e = cc

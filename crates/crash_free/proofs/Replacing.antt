@@ -1,5 +1,5 @@
 -- Machines that are replaced, rank by rank: where each is the other one, or gets it, all are the others.
-use Rattle.std.proofs.Common.{◌≡◌, ℕ, zero, suc, ◌+◌, ◌<◌, ◌≤◌, List, [], ◌∷◌, ◌++◌, length, refl, sym, ap, ◌∙◌, arith, get_or, take, drop, set}
+use Rattle.std.proofs.Common.{◌≡◌, ℕ, zero, suc, ◌+◌, ◌<◌, ◌≤◌, List, [], ◌∷◌, ◌++◌, length, refl, sym, ap, ◌∙◌, arith, get_or, take, drop}
 use Rattle.std.specs.Prelude.{Option, Some, None, slice_set}
 use Rattle.std.specs.Option.{unwrap_or}
 use Rattle.std.proofs.lemmas.List.{append-nil, length_push, length-set, take_all}
@@ -49,26 +49,26 @@ last_put ms rs os rest o x k split there place low before =
       rw place (sym (last_replaced ms rest x (omega (arith, size, low)))) ∙ ap (λ z. replaced ms (rest ++ z ∷ [])) (sym there) ∙ ap (replaced ms) (sym split) ∙ before,
     )
 
--- the machines that were compared are the others, and so is one more
-pub compared_one_more : (ms ts : List MachineValue) (os : List (Option MachineValue)) (o : Option MachineValue) (m t : MachineValue) (k : ℕ)
+-- the machines so far are the others, and so is one more
+pub copied_one_more : (ms ts : List MachineValue) (os : List (Option MachineValue)) (o : Option MachineValue) (m t : MachineValue) (k : ℕ)
     → length os ≡ k → k < length ms → k < length ts → m ≡ get_or ms k m → t ≡ get_or ts k t → unwrap_or o m ≡ t
     → replaced ms os ≡ take k ts ++ drop k ms → replaced ms (os ++ o ∷ []) ≡ take (k + 1) ts ++ drop (k + 1) ms
-compared_one_more [] ts os o m t k count low within is_m is_t here before = absurd (omega (arith, low))
-compared_one_more (x ∷ ms) [] os o m t k count low within is_m is_t here before = absurd (omega (arith, within))
-compared_one_more (x ∷ ms) (y ∷ ts) [] o m t zero count low within is_m is_t here before =
+copied_one_more [] ts os o m t k count low within is_m is_t here before = absurd (omega (arith, low))
+copied_one_more (x ∷ ms) [] os o m t k count low within is_m is_t here before = absurd (omega (arith, within))
+copied_one_more (x ∷ ms) (y ∷ ts) [] o m t zero count low within is_m is_t here before =
     replaced_first x ms o [] ∙ rw (← is_m, here, is_t, replaced_none ms) refl
-compared_one_more (x ∷ ms) (y ∷ ts) [] o m t (suc k) count low within is_m is_t here before = absurd (omega (arith, count))
-compared_one_more (x ∷ ms) (y ∷ ts) (p ∷ os) o m t zero count low within is_m is_t here before = absurd (omega (arith, count))
-compared_one_more (x ∷ ms) (y ∷ ts) (p ∷ os) o m t (suc k) count low within is_m is_t here before =
+copied_one_more (x ∷ ms) (y ∷ ts) [] o m t (suc k) count low within is_m is_t here before = absurd (omega (arith, count))
+copied_one_more (x ∷ ms) (y ∷ ts) (p ∷ os) o m t zero count low within is_m is_t here before = absurd (omega (arith, count))
+copied_one_more (x ∷ ms) (y ∷ ts) (p ∷ os) o m t (suc k) count low within is_m is_t here before =
     let parts = sym (replaced_first x ms p os) ∙ before in
     let head : unwrap_or p x ≡ y = ap (λ l. get_or l 0 y) parts in
     let rest : replaced ms os ≡ take k ts ++ drop k ms = ap (drop 1) parts in
-    let more = compared_one_more ms ts os o m t k (omega (arith, count)) (omega (arith, low)) (omega (arith, within)) is_m is_t here rest in
+    let more = copied_one_more ms ts os o m t k (omega (arith, count)) (omega (arith, low)) (omega (arith, within)) is_m is_t here rest in
     let one : suc k + 1 ≡ suc (k + 1) = omega arith in
     replaced_first x ms p (os ++ o ∷ []) ∙ rw (head, one, more) refl
 
 -- and then all are
-pub all_compared : (ms ts rs : List MachineValue) (k : ℕ) → length ms ≡ length ts → length ts ≤ k → rs ≡ take k ts ++ drop k ms → rs ≡ ts
-all_compared ms ts rs k size end same =
+pub all_copied : (ms ts rs : List MachineValue) (k : ℕ) → length ms ≡ length ts → length ts ≤ k → rs ≡ take k ts ++ drop k ms → rs ≡ ts
+all_copied ms ts rs k size end same =
     let past : length ms ≤ k = omega (arith, size, end) in
     same ∙ rw (take_all k ts end, drop_of_length-le ms past) (append-nil ts)

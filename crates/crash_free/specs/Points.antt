@@ -1,6 +1,6 @@
 -- Points of a run to which a simulation can go back (checkpoints of a search that undoes what it did: VeriSoft makes runs
 -- again from the beginning, Godefroid 1997).
-use Rattle.std.specs.Prelude.{◌≡◌, ℕ, ℤ, ◌-◌, ◌≤◌, ◌++◌, List, [], ◌∷◌, Option, Some, None, length, drop, slice_get}
+use Rattle.std.specs.Prelude.{◌≡◌, ℕ, ℤ, ◌-◌, ◌≤◌, ◌++◌, Bool, true, List, [], ◌∷◌, Option, Some, None, length, drop, slice_get}
 use Rattle.rank_language.specs.Program.{ProgramValue}
 use Rattle.rank_machine.specs.Machine.{MachineValue}
 use Rattle.crash_free.specs.Runs.{Passed}
@@ -34,9 +34,9 @@ pub record IsPointOf (program : ProgramValue) (n : ℕ) (C : List Passed) (p : P
   pub kept : IsKept program p.machines p.channels (first_acts p.made C)
   pub lines : AreLines p.lines (first_acts p.made C)
 
--- each machine is of the same program as the one of its rank in the second list
-abbrev pub AreOfOneProgram : List MachineValue → List MachineValue → Type 0
-AreOfOneProgram machines others = (r : ℕ) (m other : MachineValue) → slice_get machines r ≡ Some m → slice_get others r ≡ Some other → m.program ≡ other.program
+-- the machine of each rank with a mark is the one of its rank in the second list
+abbrev pub AreUnmoved : List MachineValue → List MachineValue → List Bool → Type 0
+AreUnmoved machines others marks = (r : ℕ) → slice_get marks r ≡ Some true → slice_get machines r ≡ slice_get others r
 
 -- the machines, with another in the place of each for which there is one
 abbrev pub replaced : List MachineValue → List (Option MachineValue) → List MachineValue

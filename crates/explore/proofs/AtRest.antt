@@ -82,11 +82,12 @@ rests_beside s s' q r c allows apart nothing rests =
         (rests_same s (with_act s q m' act) r refl (length-set s.machines q m') (set_apart s.machines q m' r apart)
         (history-other s.run p r (λ e. apart (sym e))) (λ x. sent_to_other s.run p x r quiet) rests)
 
--- the newest act is the last that is shown
+-- what is put at the end of a list stands there
 at_end : (xs : List Passed) (p : Passed) → slice_get (xs ++ p ∷ []) (length xs) ≡ Some p
 at_end [] p = refl
 at_end (x ∷ xs) p = at_end xs p
 
+-- so the newest act is the last that is shown
 last_shown : (p : Passed) (D : List Passed) → slice_get (reverse (p ∷ D)) (length D) ≡ Some p
 last_shown p D =
     let shape : reverse (p ∷ D) ≡ reverse D ++ p ∷ [] =

@@ -255,13 +255,14 @@ pub mark_there : (mode : SendMode) → {E : Type 0} (program : ProgramValue) (n 
 mark_there mode program n o choices run acts (Err x) is chosen same past none = tt
 mark_there mode program n o choices run acts (Ok None) is chosen same past none = tt
 mark_there mode program n o choices run acts (Ok (Some mark)) is chosen same past none =
-    record {
+    inl
+    (record {
       run = run;
       outcome = is;
       chosen = chosen;
       yes = λ e. subst (λ C. MissesShown (start_of program n) C) back (past (ap (λ b. Ok (Some b)) e));
       no = λ e x. none (ap (λ b. Ok (Some b)) e) (subst (λ C. MissesShown (start_of program n) C) (sym back) x);
-    }
+    })
   where
     back : reverse acts ≡ run
     back = ap reverse same ∙ reverse-reverse run

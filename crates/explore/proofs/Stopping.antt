@@ -1,24 +1,30 @@
 -- Stops of a run: they are stops of each run that begins with the same acts, so a search that goes back to one keeps those before it.
-use Rattle.std.proofs.Common.{◌≡◌, ℕ, ◌+◌, ◌<◌, ◌≤◌, List, [], ◌∷◌, ◌++◌, Some, length, slice_get, ◌⊎◌, inl, inr, refl, sym, ap, subst, ◌∙◌, arith}
-use Rattle.std.proofs.lemmas.Bool.{cases_eq}
-use Rattle.std.proofs.lemmas.Option.{slice_get_within}
+use Rattle.std.proofs.Common.{◌≡◌, ℕ, ◌+◌, ◌<◌, ◌≤◌, List, [], ◌∷◌, ◌++◌, Some, length, slice_get, ◌⊎◌, inl, inr, refl, sym, ap, subst, ◌∙◌, arith, Bool}
+use Rattle.std.proofs.lemmas.Bool.{cases_eq, cases_lt}
+use Rattle.std.proofs.lemmas.List.{append-nil}
+use Rattle.std.proofs.lemmas.Option.{slice_get_past, slice_get_within}
 use Rattle.rank_language.specs.Program.{ProgramValue}
-use Rattle.crash_free.specs.Points.{IsPointOf, first_acts, GoesBehind, stood}
-use Rattle.crash_free.specs.Runs.{Passed}
+use Rattle.crash_free.specs.Points.{IsPointOf, first_acts, AreUnmoved, GoesBehind, stood}
+use Rattle.rank_machine.specs.Machine.{MachineValue}
+use Rattle.crash_free.specs.Parts.{IsBeginning}
+use Rattle.crash_free.specs.Runs.{Passed, history}
 use Rattle.crash_free.specs.Sim.{SimValue, Simulates, Allows}
 use Rattle.crash_free.specs.Wanted.{StandsAtAct}
-use Rattle.crash_free.proofs.Points.{behind_longer, first_behind, first_long, first_of_first, same_point}
+use Rattle.crash_free.proofs.Points.{behind_longer, first_before, first_behind, first_long, first_of_first, same_point}
 use Rattle.explore.specs.declared.moves.Move.{Move}
 use Rattle.explore.specs.declared.stops.Stop.{Stop}
 use Rattle.explore.specs.declared.stops.Stops.{Stops}
-use Rattle.explore.specs.Counts.{Counts, KeepsCount}
+use Rattle.explore.specs.Counting.{HasMade}
+use Rattle.explore.specs.Counts.{AreEqualAt, Counts, KeepsCount}
 use Rattle.explore.specs.Making.{LeadsTo}
 use Rattle.explore.specs.Outcomes.{IsAmong}
 use Rattle.explore.specs.Resting.{AreResting}
 use Rattle.explore.specs.Searching.{IsAlike}
 use Rattle.explore.specs.Stops.{AreSomeOf, AreStops, AreWithin, CanGoBack, IsClosest, IsOneOf, IsStop, KeepsStops}
 use Rattle.explore.proofs.Among.{among_push}
+use Rattle.audit.proofs.Reaching.{some_there}
 use Rattle.explore.proofs.Choosing.{IsStep, goes_by}
+use Rattle.explore.proofs.Within.{history_behind, one_made}
 use Rattle.explore.specs.declared.send_mode.SendMode.{SendMode}
 
 -- The same acts
@@ -152,6 +158,37 @@ module _ (s : SimValue) (stops : Stops) (stop : Stop) (closest : IsClosest stops
 
   pub back_resting : AreResting (stood s.program s.run stop.point) stop.marks
   back_resting = is.resting
+
+  -- a rank that had as many steps left there has made none since, so its machine is the same
+  pub back_unmoved : (left : List ℕ) (marks : List Bool) → Counts steps s left → AreEqualAt left stop.left marks
+      → AreUnmoved s.machines stop.point.machines marks
+  back_unmoved left marks counts equal r marked = by_rank (cases_lt r (length s.machines))
+    where
+      size : length stop.point.machines ≡ length s.machines
+      size = is.point.ranks
+
+      by_rank : (r < length s.machines) ⊎ (length s.machines ≤ r) → slice_get s.machines r ≡ slice_get stop.point.machines r
+      by_rank (inl low) =
+          let here = counts r low in
+          let there = is.counts r (omega (arith, low, size)) in
+          let now = some_there (slice_get s.machines r) (λ m. HasMade s.program (length s.machines) r (history s.run r) here.0 m) here.1 in
+          let then =
+          some_there (slice_get stop.point.machines r)
+          (λ m. HasMade s.program (length stop.point.machines) r (history (first_acts stop.point.made s.run) r) there.0 m) there.1 in
+          let made : HasMade s.program (length s.machines) r (history (first_acts stop.point.made s.run) r) there.0 then.0 =
+          subst (λ n. HasMade s.program n r (history (first_acts stop.point.made s.run) r) there.0 then.0) size then.2 in
+          let behind = first_before stop.point.made s.run in
+          let begins : IsBeginning (history (first_acts stop.point.made s.run) r) (history s.run r) =
+          subst (λ (C : List Passed). IsBeginning (history (first_acts stop.point.made s.run) r) (history C r)) (sym behind.1)
+          (history_behind behind.0 (first_acts stop.point.made s.run) r) in
+          let all = here.2 in
+          let all_there = there.2 in
+          let left_same = equal.0 r marked in
+          let same =
+          one_made s.program (length s.machines) r (history s.run r) (history s.run r) (history (first_acts stop.point.made s.run) r) here.0 there.0
+          now.0 then.0 now.2 made (omega (arith, all, all_there, left_same)) [] begins.0 (sym (append-nil (history s.run r))) begins.1 in
+          now.1 ∙ ap (λ (m : MachineValue). Some m) same.1 ∙ sym then.1
+      by_rank (inr high) = slice_get_past s.machines r high ∙ sym (slice_get_past stop.point.machines r (omega (arith, high, size)))
 
   pub back_alike : (t : SimValue) → t ≡ stood s.program s.run stop.point → IsAlike s t
   back_alike t back =

@@ -52,7 +52,7 @@ same_next h g later more x y same e =
     cc
 
 -- with two beginnings of one history, by as many steps, a rank has made the same, and its machine is the same
-one_made : (program : ProgramValue) (n r : ℕ) (H h g : History) (j k : ℕ) (a b : MachineValue) → HasMade program n r h j a → HasMade program n r g k b
+pub one_made : (program : ProgramValue) (n r : ℕ) (H h g : History) (j k : ℕ) (a b : MachineValue) → HasMade program n r h j a → HasMade program n r g k b
     → j ≡ k → (later more : History) → H ≡ h ++ later → H ≡ g ++ more → (h ≡ g) × (a ≡ b)
 one_made program n r H h g j k a b (begins x) (begins y) same later more e f = (refl, one_begins program n r a b x y)
 one_made program n r H h g j k a b (begins x) (inside {k = k'} y wants goes) same later more e f = absurd (omega (arith, same))
@@ -179,7 +179,7 @@ sooner program n r h k m (acts {h = h'} {k = k'} {m = m'} act message x fits aft
 -- The acts of a run
 
 -- a run has of each rank the history that it had before
-history_behind : (later D : List Passed) (r : ℕ) → IsBeginning (history D r) (history (later ++ D) r)
+pub history_behind : (later D : List Passed) (r : ℕ) → IsBeginning (history D r) (history (later ++ D) r)
 history_behind [] D r = ([], sym (append-nil (history D r)))
 history_behind (p ∷ later) D r =
     IsBeginning-trans (history D r) (history (later ++ D) r) (history (p ∷ (later ++ D)) r) (history_behind later D r) (history_grows (later ++ D) p r)

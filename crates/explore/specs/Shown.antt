@@ -2,9 +2,11 @@
 -- source don't overtake one another, so a rank that took or hit a message has all before it too, and
 -- they stay until they are taken: a probe that matches one of them finds it (MPI 1.1, sections 3.5
 -- and 3.8). A run of `IsRun` may miss there, as of a miss it asks nothing.
-use Rattle.std.specs.Prelude.{◌≡◌, ◌⊎◌, ℕ, suc, ◌==◌, ◌&&◌, nat_lt, Bool, true, false, List, [], ◌∷◌, Option, IfSome, Some, length, slice_get}
+use Rattle.std.specs.Prelude.{◌≡◌, ◌⊎◌, ℕ, suc, ◌==◌, ◌&&◌, nat_lt, Bool, true, false, List, [], ◌∷◌, Option, IfSome, None, Some, length, slice_get}
 use Rattle.std.specs.List.{list_any}
 use Rattle.matching.specs.declared.selector.Selector.{Selector}
+use Rattle.rank_language.specs.Placed.{Simple, declare, declare_array, assign, assign_item, send, receive, probe, try_probe, print, collect}
+use Rattle.rank_language.specs.Block.{Line, simple_line, if_line, else_line, end_line, while_line, back_line}
 use Rattle.rank_language.specs.Program.{ProgramValue}
 use Rattle.rank_machine.specs.declared.want.Want.TheVariants as want
 use Rattle.rank_machine.specs.States.{State}
@@ -53,14 +55,53 @@ abbrev pub MissesShown : (ℕ → State) → List Passed → Type 0
 MissesShown start [] = ⊥
 MissesShown start (p ∷ P) = ((p.act ≡ misses) × MayMissShown start P p.rank) ⊎ MissesShown start P
 
--- The mark of an outcome is that of some maximal run that has it, and in which the choices were made
--- that are noted with it: whether in this run a rank misses a message that it was shown.
-pub record IsMark (mode : SendMode) (program : ProgramValue) (n : ℕ) (o : List RankOutcome) (choices : List Noted) (mark : Bool) : Type 0 where
+-- the statement is a probe that doesn't wait
+abbrev pub is_try_probe : Simple → Bool
+is_try_probe (try_probe c t x) = true
+is_try_probe (declare p) = false
+is_try_probe (declare_array p) = false
+is_try_probe (assign p e) = false
+is_try_probe (assign_item p i e) = false
+is_try_probe (send d t p) = false
+is_try_probe (receive c t b) = false
+is_try_probe (probe c t) = false
+is_try_probe (print e) = false
+is_try_probe (collect c) = false
+
+-- so is the line
+abbrev pub is_try_line : Line → Bool
+is_try_line (simple_line s) = is_try_probe s
+is_try_line (if_line e q) = false
+is_try_line (else_line q) = false
+is_try_line end_line = false
+is_try_line (while_line e q) = false
+is_try_line (back_line q) = false
+
+-- the same of a line, if there is one
+abbrev pub is_try_in : Option Line → Bool
+is_try_in None = false
+is_try_in (Some l) = is_try_line l
+
+-- one of these lines is such a probe
+abbrev pub HasTryProbe : List Line → Type 0
+HasTryProbe lines = (p : ℕ) × (is_try_in (slice_get lines p) ≡ true)
+
+-- no run of the program on n ranks has such a miss
+abbrev pub NeverMissesShown : ProgramValue → ℕ → Type 0
+NeverMissesShown program n = (P : List Passed) → MissesShown (start_of program n) P → ⊥
+
+-- some maximal run has the outcome, and in it the choices were made that are noted with it: the mark
+-- says whether in this run a rank misses a message that it was shown
+pub record IsMarkOfRun (mode : SendMode) (program : ProgramValue) (n : ℕ) (o : List RankOutcome) (choices : List Noted) (mark : Bool) : Type 0 where
   pub run : List Passed
   pub outcome : IsOutcomeUnder mode (start_of program n) n run o
   pub chosen : MakesChoices mode program n run choices
   pub yes : mark ≡ true → MissesShown (start_of program n) run
   pub no : mark ≡ false → MissesShown (start_of program n) run → ⊥
+
+-- the mark of an outcome is that of such a run, or says no where no run of the program misses so
+abbrev pub IsMark : SendMode → ProgramValue → ℕ → List RankOutcome → List Noted → Bool → Type 0
+IsMark mode program n o choices mark = IsMarkOfRun mode program n o choices mark ⊎ ((mark ≡ false) × NeverMissesShown program n)
 
 -- each outcome has its mark, or none if its run wasn't found again
 pub record AreMarked (mode : SendMode) (program : ProgramValue) (n : ℕ) (outcomes : List (List RankOutcome)) (choices : List (List Noted)) (marks : List (Option Bool))

@@ -15,7 +15,7 @@ pub struct LastState {
     /// Rank by rank, what it had of its own, and what it had left to receive.
     pub places: [u32; MOST_PLACES],
     /// Where the length of its run stood, which is most often that of the next one too.
-    pub length: u32,
+    pub length_place: u32,
     /// The ranks that acted since, or to which something was sent.
     pub changed: [bool; MOST_RANKS],
     /// The rest stands as it did after so many first acts of the run.
@@ -35,7 +35,7 @@ impl LastState {
     {
         LastState {
             places: [0; MOST_PLACES],
-            length: 0,
+            length_place: 0,
             changed: [true; MOST_RANKS],
             shared: 0,
         }

@@ -11,7 +11,7 @@ ghost use Rattle.explore.specs.Explored.{noted_choices, rank_outcomes};
 ghost use Rattle.explore.specs.Exploring.{and_then};
 ghost use Rattle.explore.specs.LastShown.{KnowsShown};
 ghost use Rattle.explore.specs.Searching.{IsAlike};
-ghost use Rattle.explore.specs.Shown.{AreMarked, IsMark, IsPast, MayMissShown, MissesShown};
+ghost use Rattle.explore.specs.Shown.{AreMarked, IsMark, IsPast, MayMissShown, MissesShown, NeverMissesShown};
 
 use crate::again::{act_at, make};
 use crate::bounds::Limits;
@@ -20,6 +20,7 @@ use crate::last_shown::LastShown;
 use crate::replay::run_of;
 use crate::resting::RestingSim;
 use crate::send_mode::SendMode;
+use crate::tries::may_miss;
 use crash_free::{Act, Passed, Sim};
 use limits::Heap;
 use matching::Selector;
@@ -29,8 +30,8 @@ use std::alloc::AllocError;
 
 /// Whether in the run of each outcome that was found, of the same program, ranks
 /// and limits, a probe misses a message that its rank was shown, which no
-/// execution does. `None` if `run_of` finds no such run. An `Err` means out of
-/// memory.
+/// execution does. `None` if `run_of` finds no such run; where no rank may miss,
+/// none is made. An `Err` means out of memory.
 #[tactic(auto, using(crate::proofs::Shown::marked_more))]
 pub fn marks_of(
     alloc: Heap,
@@ -44,10 +45,11 @@ pub fn marks_of(
     requires few { ranks ≤ most_ranks }
     ensures { IfOk result (λ marks. AreMarked mode program.now ranks (rank_outcomes outcomes.now) (noted_choices outcomes.now) marks.items) }
 {
+    let misses = may_miss(program);
     let mut marks = Vec::new(alloc);
     for at in 0..outcomes.len() {
         let outcome = outcome_at(outcomes, at);
-        marks.push(mark_of(alloc, mode, program, ranks, limits, outcome)?)?;
+        marks.push(mark_of(alloc, mode, program, ranks, limits, misses, outcome)?)?;
     }
     Ok(marks)
 }
@@ -59,6 +61,7 @@ fn outcome_at(outcomes: &[FoundOutcome], at: usize) -> &FoundOutcome
     &outcomes[at]
 }
 
+// The mark of one outcome. `misses` is whether a rank may miss.
 #[tactic(auto, using(crate::proofs::Shown::run_back, crate::proofs::Shown::mark_there))]
 fn mark_of(
     alloc: Heap,
@@ -66,12 +69,17 @@ fn mark_of(
     program: &Program,
     ranks: u8,
     limits: Limits,
+    misses: bool,
     outcome: &FoundOutcome,
 ) -> Result<Option<bool>, AllocError>
     requires some { 1 ≤ ranks }
     requires few { ranks ≤ most_ranks }
+    requires never { misses ≡ false → NeverMissesShown program.now ranks }
     ensures { IfOk result (λ mark. IfSome mark (IsMark mode program.now ranks outcome.now.ranks outcome.now.choices)) }
 {
+    if !misses {
+        return Ok(Some(false));
+    }
     let Some(run) = run_of(alloc, mode, program, ranks, limits, outcome)? else {
         return Ok(None);
     };

@@ -176,10 +176,10 @@ fn state_of(
     ensures knows { IfOk result (λ _. Knows live.now sim.now.program (length sim.now.machines) sim.now.run parts.new last.new) }
 {
     let ranks = sim.ranks();
-    let Some(first) = first_place(parts, part, last.length, sim, closes)? else {
+    let Some(first) = first_place(parts, part, last.length_place, sim, closes)? else {
         return Ok(None);
     };
-    last.length = first;
+    last.length_place = first;
     let mut rank = 0;
     while rank < ranks {
         if !find_rank(parts, part, last, sim, live, rank)? {

@@ -1,9 +1,9 @@
 //! A simulation that knows of some of its ranks that they rest.
-ghost use Rattle.std.specs.Prelude.{◌≡◌, ◌≢◌, ◌<◌, ◌≤◌, ◌++◌, ℕ, true, false, [], Some, IfOk, OnOk, length, reverse, slice_get};
+ghost use Rattle.std.specs.Prelude.{◌≡◌, ◌≢◌, ◌<◌, ◌≤◌, ◌++◌, ℕ, true, false, [], Err, Some, IfErr, IfOk, OnErr, OnOk, length, reverse, slice_get};
 ghost use Rattle.limits.specs.Limits.{most_ranks};
 ghost use Rattle.crash_free.specs.Inside.{GoesInside};
-ghost use Rattle.crash_free.specs.Points.{IsPointOf, stood};
-ghost use Rattle.crash_free.specs.Sim.{Allows, Simulates};
+ghost use Rattle.crash_free.specs.Points.{AreUnmoved, IsPointOf, stood};
+ghost use Rattle.crash_free.specs.Sim.{Allows, Refuses, Simulates};
 ghost use Rattle.crash_free.specs.Wanted.{StandsAtAct};
 ghost use Rattle.explore.specs.Resting.{AreResting, Rests, WakesReceiver};
 
@@ -118,10 +118,13 @@ impl<'p> RestingSim<'p> {
         made
     }
 
-    /// Makes the step or the act that the choice names.
+    /// Makes the step or the act that the choice names. A refusal leaves all as it was.
     pub fn act(&mut self, rank: u8, choice: Choice) -> Result<(), NotAllowed>
         requires { rank < length self.old.machines }
         ensures ok { OnOk result (Allows self.old rank choice self.new) }
+        ensures refused { IfErr result (λ why. Refuses self.old rank choice why) }
+        ensures exact { (why : NotAllowed) → why ≢ NotAllowed.Memory → Refuses self.old rank choice why → result ≡ Err why }
+        ensures err { OnErr result (self.new ≡ self.old) }
         ensures stands { Simulates self.new }
         ensures ranks { length self.new.machines ≡ length self.old.machines }
     {
@@ -140,20 +143,23 @@ impl<'p> RestingSim<'p> {
         self.sim.point()
     }
 
-    /// Goes back to a point of its run, where the ranks with these marks rest. Answers the acts that
-    /// were made since, the oldest first. An `Err` means out of memory.
+    /// Goes back to a point of its run, where the ranks with these marks rest; those that `unmoved`
+    /// marks stand there as they do now. Answers the acts that were made since, the oldest first. An
+    /// `Err` means out of memory.
     pub fn go_back(
         &mut self,
         point: &Point<'p>,
         marks: [bool; MOST_RANKS],
+        unmoved: &[bool],
     ) -> Result<Vec<Passed, Heap>, AllocError>
         requires point { IsPointOf self.old.program (length self.old.machines) self.old.run point.now }
         requires marks { AreResting (stood self.old.program self.old.run point.now) marks }
+        requires unmoved { AreUnmoved self.old.machines point.now.machines unmoved.now }
         ensures back { OnOk result (self.new ≡ stood self.old.program self.old.run point.now) }
         ensures since { IfOk result (λ acts. reverse acts.items ++ self.new.run ≡ self.old.run) }
         ensures stands { Simulates self.new }
     {
-        let since = self.sim.go_back(point)?;
+        let since = self.sim.go_back(point, unmoved)?;
         self.marks = marks;
         Ok(since)
     }

@@ -7,7 +7,7 @@ ghost use Rattle.crash_free.specs.Runs.{IsRun};
 ghost use Rattle.crash_free.specs.Sim.{Simulates, start_of};
 ghost use Rattle.crash_free.specs.Wanted.{StandsAtAct};
 ghost use Rattle.explore.specs.Counting.{GoesBeyond};
-ghost use Rattle.explore.specs.Counts.{Counts, KeepsCount, NeedsAtMost};
+ghost use Rattle.explore.specs.Counts.{AreEqualAt, Counts, KeepsCount, NeedsAtMost};
 ghost use Rattle.explore.specs.Searching.{IsAlike};
 ghost use Rattle.explore.specs.Stems.{GoesBehind, IsAfter, IsRunOf, StandsFor, first_acts, stem_of};
 ghost use Rattle.explore.specs.Sending.{HasRunUnder};
@@ -84,7 +84,7 @@ fn make_first<'p>(
 
 // Goes back to the closest stop. Answers the acts that were made since, the oldest first.
 fn go_back<'p>(path: &mut Path<'p>, stops: &Stops<'p>) -> Result<Vec<Passed, Heap>, AllocError>
-    requires stops { (steps : ℕ) × AreStops path.old.sim.program (length path.old.sim.machines) steps path.old.sim.run stops.now }
+    requires back { (steps : ℕ) × CanGoBack steps path.old.sim path.old.left stops.now }
     ensures alike { OnOk result (IsAlike path.old.sim path.new.sim) }
     ensures stands { OnOk result (Simulates path.new.sim) }
     ensures since { IfOk result (λ acts. reverse acts.items ++ path.new.sim.run ≡ path.old.sim.run) }
@@ -93,9 +93,23 @@ fn go_back<'p>(path: &mut Path<'p>, stops: &Stops<'p>) -> Result<Vec<Passed, Hea
         → CanGoBack steps path.new.sim path.new.left stops.now) }
 {
     let stop = stops.closest();
-    let since = path.sim.go_back(&stop.point, stop.marks)?;
+    let unmoved = have_equal(&path.left, &stop.left);
+    let since = path.sim.go_back(&stop.point, stop.marks, &unmoved)?;
     path.left = stop.left;
     Ok(since)
+}
+
+// Which ranks have as many steps left as there: such a rank has made none since.
+fn have_equal(left: &[u32; MOST_RANKS], there: &[u32; MOST_RANKS]) -> [bool; MOST_RANKS]
+    ensures { AreEqualAt left.now there.now result }
+{
+    let mut equal = [false; MOST_RANKS];
+    let mut rank = 0;
+    while rank < MOST_RANKS {
+        equal[rank] = left[rank] == there[rank];
+        rank += 1;
+    }
+    equal
 }
 
 // Makes the first of these acts, so many, with stops on the way: the next branches go off near

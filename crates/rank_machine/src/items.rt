@@ -83,10 +83,14 @@ impl Items {
         ensures index { result ≡ index_in self.now value }
         ensures within { IfOk result (λ index. index < length self.now) }
     {
-        let length = self.items.len();
-        match usize::try_from(value) {
-            Ok(index) if index < length => Ok(index),
-            _ => Err(MachineFault::Index),
+        if value < 0 {
+            return Err(MachineFault::Index);
+        }
+        let index = value as usize;
+        if index < self.items.len() {
+            Ok(index)
+        } else {
+            Err(MachineFault::Index)
         }
     }
 

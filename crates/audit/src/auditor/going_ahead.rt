@@ -111,7 +111,8 @@ impl Auditor<'_> {
         requires rank { rank < length self.now.sim.machines }
         requires keeps { Keeps self.now.sim self.now.traces.items }
         requires sorted { IsSorted (length self.now.sim.machines) goal.now.outcome.now.lines goal.now.lines.now }
-        ensures { result ≡ true → IsBeginning (printed self.now.sim.run rank) (lines_of rank goal.now.outcome.now.lines) }
+        ensures yes { result ≡ true → IsBeginning (printed self.now.sim.run rank) (lines_of rank goal.now.outcome.now.lines) }
+        ensures no { result ≡ false → IsBeginning (printed self.now.sim.run rank) (lines_of rank goal.now.outcome.now.lines) → ⊥ }
     {
         let place = usize::from(rank);
         lines::begin_with(goal.lines[place].as_slice(), self.traces[place].lines())

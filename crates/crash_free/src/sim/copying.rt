@@ -1,7 +1,7 @@
 //! Copies of machines.
-ghost use Rattle.std.specs.Prelude.{◌≡◌, ◌≤◌, IfOk, length};
+ghost use Rattle.std.specs.Prelude.{◌≡◌, ◌≢◌, ◌≤◌, true, false, Some, IfOk, length, slice_get};
 ghost use Rattle.std.specs.Option.{unwrap_or};
-ghost use Rattle.crash_free.specs.Points.{AreOfOneProgram, replaced};
+ghost use Rattle.crash_free.specs.Points.{AreUnmoved, replaced};
 
 use limits::Heap;
 use rank_machine::Machine;
@@ -21,38 +21,53 @@ pub fn copied<'p>(
     Ok(copies)
 }
 
-/// Copies of those of the others that aren't as the machine of the same rank is. Most acts of a
-/// search change few machines, and to compare two takes a fraction of what a copy does.
-#[tactic(auto, using(crate::proofs::Replacing::none_replaced, crate::proofs::Replacing::compared_one_more, crate::proofs::Replacing::all_compared))]
-pub fn different<'p>(
+/// Copies of the others, but of those that `unmoved` marks: they are as the machine of the same rank
+/// is. Most acts of a search move few ranks.
+#[tactic(auto, using(crate::proofs::Replacing::none_replaced, crate::proofs::Replacing::copied_one_more, crate::proofs::Replacing::all_copied))]
+pub fn copy_moved<'p>(
     alloc: Heap,
     machines: &[Machine<'p>],
     others: &[Machine<'p>],
+    unmoved: &[bool],
 ) -> Result<Vec<Option<Machine<'p>>, Heap>, AllocError>
     requires ranks { length machines.now ≡ length others.now }
-    requires program { AreOfOneProgram machines.now others.now }
+    requires unmoved { AreUnmoved machines.now others.now unmoved.now }
     ensures replaced { IfOk result (λ copies. replaced machines.now copies.items ≡ others.now) }
     ensures count { IfOk result (λ copies. length copies.items ≤ length machines.now) }
 {
     let mut copies = Vec::with_capacity(alloc, others.len())?;
     let mut rank = 0;
     while rank < others.len() {
-        copies.push(if_different(alloc, &machines[rank], &others[rank])?)?;
+        let stays = is_marked(unmoved, rank);
+        copies.push(copy_unless(alloc, stays, &machines[rank], &others[rank])?)?;
         rank += 1;
     }
     Ok(copies)
 }
 
-// A copy of the other one, unless the machine is the same.
-fn if_different<'p>(
+// Whether there is a mark at the place.
+fn is_marked(marks: &[bool], place: usize) -> bool
+    ensures yes { result ≡ true → slice_get marks.now place ≡ Some true }
+    ensures no { result ≡ false → slice_get marks.now place ≢ Some true }
+{
+    match marks.get(place) {
+        Some(mark) => *mark,
+        None => false,
+    }
+}
+
+// A copy of the other one, unless the machine stays, which is the same then.
+fn copy_unless<'p>(
     alloc: Heap,
+    stays: bool,
     machine: &Machine<'p>,
     other: &Machine<'p>,
 ) -> Result<Option<Machine<'p>>, AllocError>
-    requires { machine.now.program ≡ other.now.program }
+    requires { stays ≡ true → machine.now ≡ other.now }
     ensures { IfOk result (λ copy. unwrap_or copy machine.now ≡ other.now) }
 {
-    if machine.is_same(other) {
+    let _ = machine;
+    if stays {
         return Ok(None);
     }
     Ok(Some(other.copy(alloc)?))

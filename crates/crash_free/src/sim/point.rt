@@ -1,13 +1,13 @@
 //! Points of a run, to which a simulation can go back.
 ghost use Rattle.std.specs.Prelude.{◌≡◌, ◌++◌, IfOk, OnOk, OnErr, length, reverse};
 ghost use Rattle.crash_free.specs.Sim.{Simulates};
-ghost use Rattle.crash_free.specs.Points.{IsPointOf, stood};
+ghost use Rattle.crash_free.specs.Points.{AreUnmoved, IsPointOf, stood};
 
 use crate::act::Passed;
 use crate::lines::PrintedValues;
 use crate::mail::Mail;
 use crate::sim::Sim;
-use crate::sim::copying::{copied, different, replace};
+use crate::sim::copying::{copied, copy_moved, replace};
 use limits::Heap;
 use rank_machine::Machine;
 use std::alloc::AllocError;
@@ -60,16 +60,22 @@ impl<'p> Sim<'p> {
         })
     }
 
-    /// Goes back to a point of its run. Answers the acts that were made since,
-    /// the oldest first. An `Err` means out of memory.
-    pub fn go_back(&mut self, point: &Point<'p>) -> Result<Vec<Passed, Heap>, AllocError>
-        requires { IsPointOf self.old.program (length self.old.machines) self.old.run point.now }
+    /// Goes back to a point of its run. A rank that `unmoved` marks stands there as it does now: its
+    /// machine isn't copied. Answers the acts that were made since, the oldest first. An `Err` means
+    /// out of memory.
+    pub fn go_back(
+        &mut self,
+        point: &Point<'p>,
+        unmoved: &[bool],
+    ) -> Result<Vec<Passed, Heap>, AllocError>
+        requires point { IsPointOf self.old.program (length self.old.machines) self.old.run point.now }
+        requires unmoved { AreUnmoved self.old.machines point.now.machines unmoved.now }
         ensures back { OnOk result (self.new ≡ stood self.old.program self.old.run point.now) }
         ensures since { IfOk result (λ acts. reverse acts.items ++ self.new.run ≡ self.old.run) }
         ensures err { OnErr result (self.new ≡ self.old) }
         ensures stands { Simulates self.new }
     {
-        let machines = different(self.alloc, &self.machines, &point.machines)?;
+        let machines = copy_moved(self.alloc, &self.machines, &point.machines, unmoved)?;
         let mail = point.mail.copy(self.alloc)?;
         let lines = point.lines.copy()?;
         let since = self.passed.split_off(point.made)?;

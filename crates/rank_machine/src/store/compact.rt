@@ -187,20 +187,21 @@ impl Store {
             Compact::Other => None,
             Compact::Next => Some(position + 1),
             Compact::Jump(next) => Some(*next),
-            Compact::SetNumber(place, _)
-            | Compact::SetVariable(place, _)
-            | Compact::AddNumber(place, _, _)
-            | Compact::AddVariable(place, _, _)
-            | Compact::SubtractNumber(place, _, _)
-            | Compact::SubtractVariable(place, _, _)
-            | Compact::MultiplyNumber(place, _, _)
-            | Compact::MultiplyVariable(place, _, _)
-            | Compact::DivideNumber(place, _, _)
-            | Compact::DivideVariable(place, _, _)
-            | Compact::RemainderNumber(place, _, _)
-            | Compact::RemainderVariable(place, _, _)
-            | Compact::SetNested(place, _)
-            | Compact::Item(place, _, _) => self.assign(place, compact, position),
+            // (an arm for each: where they share one, what the form is is looked up twice)
+            Compact::SetNumber(place, _) => self.assign(place, compact, position),
+            Compact::SetVariable(place, _) => self.assign(place, compact, position),
+            Compact::AddNumber(place, ..) => self.assign(place, compact, position),
+            Compact::AddVariable(place, ..) => self.assign(place, compact, position),
+            Compact::SubtractNumber(place, ..) => self.assign(place, compact, position),
+            Compact::SubtractVariable(place, ..) => self.assign(place, compact, position),
+            Compact::MultiplyNumber(place, ..) => self.assign(place, compact, position),
+            Compact::MultiplyVariable(place, ..) => self.assign(place, compact, position),
+            Compact::DivideNumber(place, ..) => self.assign(place, compact, position),
+            Compact::DivideVariable(place, ..) => self.assign(place, compact, position),
+            Compact::RemainderNumber(place, ..) => self.assign(place, compact, position),
+            Compact::RemainderVariable(place, ..) => self.assign(place, compact, position),
+            Compact::SetNested(place, _) => self.assign(place, compact, position),
+            Compact::Item(place, ..) => self.assign(place, compact, position),
             Compact::SetItemNumber(array, index, value) => {
                 self.set_item(*array, *index, Operand::Number(*value), position)
             }

@@ -1,5 +1,6 @@
 //! Values of expressions over what a rank has stored.
 ghost use Rattle.std.specs.Prelude.{◌≡◌, ◌<◌, ◌-◌, IfOk, IfSome, Ok, Some, [], length, slice_index_or};
+ghost use Rattle.rank_language.specs.Placed.{operation};
 ghost use Rattle.rank_language.specs.Seen.{operand_of, placed_of};
 ghost use Rattle.rank_language.specs.Program.{IsWithin};
 ghost use Rattle.rank_machine.specs.Computed.{valued};
@@ -7,9 +8,9 @@ ghost use Rattle.rank_machine.specs.Values.{value, read, rank_in};
 ghost use Rattle.rank_machine.specs.States.{item_value};
 
 use crate::fault::MachineFault;
-use crate::operate::{negated, operated};
+use crate::operate::{negated, operated, product, sum};
 use crate::store::Store;
-use rank_language::{Expression, Operand, Reading};
+use rank_language::{Expression, Operand, Operator, Reading};
 
 // The value, or none and its fault.
 #[inline(always)]
@@ -95,8 +96,34 @@ impl Store {
         }
     }
 
-    // The same, or the value of an operation on such an expression and a number or a variable: so
-    // a place in a table is found, as `i * 16 + k`.
+    // The value of `row * width + column`, a place in a table, where `row` is a variable and the
+    // others are variables or numbers. None of another operation. That operators are tested for
+    // here is quicker than to choose among all of them, twice.
+    #[inline(always)]
+    fn table_place(
+        &self,
+        operator: Operator,
+        left: &Expression,
+        right: &Expression,
+    ) -> Option<Result<i64, MachineFault>>
+        requires left { IsWithin (length self.now.variables) (length self.now.arrays) (placed_of left.now) }
+        requires right { IsWithin (length self.now.variables) (length self.now.arrays) (placed_of right.now) }
+        ensures { IfSome result (λ found. found ≡ value self.now (operation operator (placed_of left.now) (placed_of right.now))) }
+    {
+        let Operator::Add = operator else {
+            return None;
+        };
+        let Expression::Simple(Operator::Multiply, row, width) = left else {
+            return None;
+        };
+        let column = self.leaf(right)?;
+        match product(self.variables[*row], self.operand(*width)) {
+            Ok(start) => Some(sum(start, column)),
+            Err(fault) => Some(Err(fault)),
+        }
+    }
+
+    // The value of a simple expression, or of a place in a table.
     #[inline(always)]
     fn index(&self, expression: &Expression) -> Option<Result<i64, MachineFault>>
         requires { IsWithin (length self.now.variables) (length self.now.arrays) (placed_of expression.now) }
@@ -105,11 +132,7 @@ impl Store {
         let Expression::Operation(operator, left, right) = expression else {
             return self.simple(expression);
         };
-        let right = self.leaf(right)?;
-        match self.simple(left)? {
-            Ok(left) => Some(operated(*operator, left, right)),
-            Err(fault) => Some(Err(fault)),
-        }
+        self.table_place(*operator, left, right)
     }
 
     // The value of a simple expression, or of an item with an index as above.
@@ -123,6 +146,25 @@ impl Store {
         };
         match self.index(index)? {
             Ok(index) => Some(self.arrays[*place].item_at(index)),
+            Err(fault) => Some(Err(fault)),
+        }
+    }
+
+    // The same, or the value of an operation on two such expressions: so a sum needs no call for a
+    // product that is added.
+    #[inline(always)]
+    fn near_operation(&self, expression: &Expression) -> Option<Result<i64, MachineFault>>
+        requires { IsWithin (length self.now.variables) (length self.now.arrays) (placed_of expression.now) }
+        ensures { IfSome result (λ found. found ≡ value self.now (placed_of expression.now)) }
+    {
+        let Expression::Operation(operator, left, right) = expression else {
+            return self.near(expression);
+        };
+        match self.near(left)? {
+            Ok(left) => match self.near(right)? {
+                Ok(right) => Some(operated(*operator, left, right)),
+                Err(fault) => Some(Err(fault)),
+            },
             Err(fault) => Some(Err(fault)),
         }
     }
@@ -152,7 +194,7 @@ impl Store {
                     Some(value) => value_or(value, fault)?,
                     None => self.computed(left, fault)?,
                 };
-                let right = match self.near(right) {
+                let right = match self.near_operation(right) {
                     Some(value) => value_or(value, fault)?,
                     None => self.computed(right, fault)?,
                 };

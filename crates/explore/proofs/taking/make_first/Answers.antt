@@ -11,7 +11,7 @@ go_back-requires c =
     let s = c.args.path.now.sim in
     let are = some_stops s.program (length s.machines) c.requires.back.0 s.run c.drop_behind.new.self c.args.stops.now c.drop_behind.ensures.some
     c.requires.back.1.of_run in
-    record { stops = (c.requires.back.0, are) }
+    record { back = (c.requires.back.0, record { counts = c.requires.back.1.counts; of_run = are }) }
 
 pub overflow_sub-count : goal.overflow_sub-count
 overflow_sub-count c =

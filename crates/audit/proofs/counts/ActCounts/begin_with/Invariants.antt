@@ -3,11 +3,11 @@ use Rattle.audit.specs.Rows.{expand}
 use Rattle.audit.proofs.counts.ActCounts.begin_with.Given as goal
 
 -- so far they are the same
-abbrev pub invariant-loop-at : goal.invariant-loop-at
-invariant-loop-at l = record {
-  same : (i : ℕ) → i < l.at → slice_get (expand l.events) i ≡ slice_get l.others i;
-  within : l.at ≤ length l.others;
+abbrev pub invariant-loop-done : goal.invariant-loop-done
+invariant-loop-done l = record {
+  same : (i : ℕ) → i < l.done → slice_get (expand l.events) i ≡ slice_get l.others i;
+  within : l.done ≤ length l.others;
 }
 
-abbrev pub decreases-loop-at : goal.decreases-loop-at
-decreases-loop-at l = length l.others - l.at
+abbrev pub decreases-loop-done : goal.decreases-loop-done
+decreases-loop-done l = length l.others - l.done

@@ -1,8 +1,8 @@
 use Rattle.std.proofs.Common.{◌≡◌, ◌≤◌, ◌-◌, ◌++◌, take, drop, length}
 use Rattle.crash_free.specs.Points.{replaced}
-use Rattle.crash_free.proofs.sim.copying.different.Given as goal
+use Rattle.crash_free.proofs.sim.copying.copy_moved.Given as goal
 
--- those compared so far are the others
+-- those so far are the others
 abbrev pub invariant-loop-rank : goal.invariant-loop-rank
 invariant-loop-rank l = record {
   within : l.rank ≤ length l.others;
